@@ -1,0 +1,89 @@
+-- Items joined and repeated: whether they are proper, how deep they are, and their normal form. Assumes nothing.
+use mathlib.Core.Path.{_≡_, refl, sym, ap, _∙_}
+use Prim.Native.Nat.{ℕ, zero, suc, _+_, _≤_, max}
+use native.Mathlib.Omega.{arith}
+use mathlib.Core.Bool.{true}
+use mathlib.Core.List.{_∷_, _++_, append-assoc}
+use lib.ListN.{length, length-append}
+use Rattle.format.specs.Choice.{both}
+use Rattle.format.specs.Items.{Leaf, Group, Items, end, leaf, group, join, times, properLeaf, properGroup, proper}
+use Rattle.format.specs.Normal.{normalSize, withSize, normalLeaf, groupByte, normal, depth}
+use Rattle.format.proofs.Choices.{both-left, both-right, both-true}
+use Rattle.format.proofs.Sizes.{sized-length}
+
+-- ---- what `proper` says of an item and of the rest, both ways
+pub leaf-proper : (l : Leaf) (xs : Items) → proper (leaf l xs) ≡ true → (properLeaf l ≡ true) × (proper xs ≡ true)
+unfolding proper
+leaf-proper l xs o = (both-left (properLeaf l) (proper xs) o, both-right (properLeaf l) (proper xs) o)
+
+pub group-proper : (g : Group) (c xs : Items) → proper (group g c xs) ≡ true → (properGroup g c ≡ true) × (proper c ≡ true) × (proper xs ≡ true)
+unfolding proper
+group-proper g c xs o =
+    let e = both-right (properGroup g c) (both (proper c) (proper xs)) o in
+    (both-left (properGroup g c) (both (proper c) (proper xs)) o, both-left (proper c) (proper xs) e, both-right (proper c) (proper xs) e)
+
+pub proper-leaf : (l : Leaf) (xs : Items) → properLeaf l ≡ true → proper xs ≡ true → proper (leaf l xs) ≡ true
+unfolding proper
+proper-leaf l xs p q = both-true (properLeaf l) (proper xs) p q
+
+pub proper-group : (g : Group) (c xs : Items) → properGroup g c ≡ true → proper c ≡ true → proper xs ≡ true → proper (group g c xs) ≡ true
+unfolding proper
+proper-group g c xs p q r = both-true (properGroup g c) (both (proper c) (proper xs)) p (both-true (proper c) (proper xs) q r)
+
+-- ---- joined
+pub join-proper : (xs ys : Items) → proper xs ≡ true → proper ys ≡ true → proper (join xs ys) ≡ true
+unfolding join
+join-proper end ys p q = q
+join-proper (leaf l xs) ys p q =
+    let e = leaf-proper l xs p in
+    proper-leaf l (join xs ys) (e .0) (join-proper xs ys (e .1) q)
+join-proper (group g c xs) ys p q =
+    let e = group-proper g c xs p in
+    proper-group g c (join xs ys) (e .0) (e .1) (join-proper xs ys (e .2) q)
+
+pub join-depth : (xs ys : Items) → depth (join xs ys) ≡ max (depth xs) (depth ys)
+unfolding join depth
+join-depth end ys = omega arith
+join-depth (leaf l xs) ys = join-depth xs ys
+join-depth (group g c xs) ys = omega (arith, join-depth xs ys)
+
+pub join-normal : (xs ys : Items) → normal (join xs ys) ≡ normal xs ++ normal ys
+unfolding join normal
+join-normal end ys = refl
+join-normal (leaf l xs) ys = ap (λ r. normalLeaf l ++ r) (join-normal xs ys) ∙ sym (append-assoc (normalLeaf l) (normal xs) (normal ys))
+join-normal (group g c xs) ys =
+    ap (λ r. groupByte g c ∷ (withSize (normal c) ++ r)) (join-normal xs ys)
+    ∙ ap (λ r. groupByte g c ∷ r) (sym (append-assoc (withSize (normal c)) (normal xs) (normal ys)))
+
+-- ---- repeated
+-- nothing and the items themselves, joined as often as said: a fact that joining keeps is a fact of what is repeated
+pub by-times : (P : Items → Type 0) (n : ℕ) (xs : Items) → P end → ((ys : Items) → P ys → P (join xs ys)) → P (times n xs)
+unfolding times
+by-times P n end e f = e
+by-times P zero (leaf l xs) e f = e
+by-times P (suc n) (leaf l xs) e f = f (times n (leaf l xs)) (by-times P n (leaf l xs) e f)
+by-times P zero (group g c xs) e f = e
+by-times P (suc n) (group g c xs) e f = f (times n (group g c xs)) (by-times P n (group g c xs) e f)
+
+pub times-proper : (n : ℕ) (xs : Items) → proper xs ≡ true → proper (times n xs) ≡ true
+times-proper n xs p = by-times (λ ys. proper ys ≡ true) n xs (unfold proper in refl) (λ ys q. join-proper xs ys p q)
+
+pub times-depth : (n : ℕ) (xs : Items) → depth (times n xs) ≤ depth xs
+times-depth n xs = by-times (λ ys. depth ys ≤ depth xs) n xs (unfold depth in omega arith) (λ ys q. omega (arith, join-depth xs ys))
+
+-- ---- how long the normal form is
+pub length-end : length (normal end) ≡ 0
+unfolding normal
+length-end = refl
+
+pub length-leaf : (l : Leaf) (xs : Items) → length (normal (leaf l xs)) ≡ length (normalLeaf l) + length (normal xs)
+unfolding normal
+length-leaf l xs = length-append (normalLeaf l) (normal xs)
+
+pub length-group : (g : Group) (c xs : Items)
+    → length (normal (group g c xs)) ≡ suc (length (normalSize (length (normal c))) + length (normal c) + length (normal xs))
+unfolding normal
+length-group g c xs = ap suc (length-append (withSize (normal c)) (normal xs) ∙ ap (λ n. n + length (normal xs)) (sized-length (normal c)))
+
+pub length-join : (xs ys : Items) → length (normal (join xs ys)) ≡ length (normal xs) + length (normal ys)
+length-join xs ys = ap length (join-normal xs ys) ∙ length-append (normal xs) (normal ys)

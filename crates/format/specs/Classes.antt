@@ -1,0 +1,43 @@
+-- "Objects by type-byte": the class of each of the 256.
+use Prim.Native.Nat.{ℕ}
+use Rattle.format.specs.declared.Class.{Class}
+use Rattle.format.specs.declared.Class.the-variants.{Char7, Sinteger, Linteger, Sbitstr, Lbitstr, String, Struc, Ustruc, Edt, Repeat, Xtra, Bool, Empty, Padding, Reserved}
+use Rattle.format.specs.Choice.{ifLt, ifEq}
+
+unfoldable pub classOf : ℕ → Class
+unfolding ifLt ifEq
+classOf b =
+    ifLt b 0x80 Char7
+    (ifLt b 0xc0 Sinteger
+    (ifEq b 0xc0 Reserved
+    (ifEq b 0xc1 Lbitstr
+    (ifEq b 0xc2 Struc
+    (ifEq b 0xc3 Edt
+    (ifEq b 0xc4 Repeat
+    (ifEq b 0xc5 Ustruc
+    (ifEq b 0xc6 String
+    (ifLt b 0xe0 Reserved
+    (ifLt b 0xe8 Linteger
+    (ifLt b 0xf0 Reserved
+    (ifLt b 0xf8 Sbitstr
+    (ifLt b 0xfc Xtra
+    (ifLt b 0xfe Bool
+    (ifEq b 0xfe Empty Padding)))))))))))))))
+
+-- the place of a class in the code's list of them
+unfoldable pub codeOf : Class → ℕ
+codeOf Char7 = 0
+codeOf Sinteger = 1
+codeOf Linteger = 2
+codeOf Sbitstr = 3
+codeOf Lbitstr = 4
+codeOf String = 5
+codeOf Struc = 6
+codeOf Ustruc = 7
+codeOf Edt = 8
+codeOf Repeat = 9
+codeOf Xtra = 10
+codeOf Bool = 11
+codeOf Empty = 12
+codeOf Padding = 13
+codeOf Reserved = 14

@@ -1,0 +1,13 @@
+-- The meanings, in the order in which they are best read. They cite the paper's sentences; nothing here follows the code.
+pub mod Choice
+pub mod Numbers
+pub mod Bits
+pub mod Refusals
+pub mod Items
+pub mod Classes
+pub mod Objects
+pub mod Messages
+pub mod Tables
+pub mod Normal
+pub mod Answers
+pub mod Examples

@@ -1,0 +1,87 @@
+-- "The numbers by the shears": with which a message or a table is refused, and the limits.
+use Prim.Native.Nat.{ℕ, _+_}
+
+-- 1: "input over 65,536 bytes"
+abbrev pub too-long : ℕ
+too-long = 1
+
+-- 2: "an outermost object needs bytes past the input's end"
+abbrev pub past-input : ℕ
+past-input = 2
+
+-- 3: "an inner object needs bytes past its enclosing object's end"
+abbrev pub past-enclosing : ℕ
+past-enclosing = 3
+
+-- 4: "reserved or unassigned type-byte"
+abbrev pub unassigned : ℕ
+unassigned = 4
+
+-- 5: "a seventeenth container"
+abbrev pub too-deep : ℕ
+too-deep = 5
+
+-- 6: "SBITSTR's first data byte is 0; LBITSTR without an INT first, with a negative length, or with another number of bytes"
+abbrev pub bad-bits : ℕ
+bad-bits = 6
+
+-- 7: "REPEAT outermost, without an INT first, or with a negative count"
+abbrev pub bad-repeat : ℕ
+bad-repeat = 7
+
+-- 8: "USTRUC of several kinds"
+abbrev pub several-kinds : ℕ
+several-kinds = 8
+
+-- 9: "EDT without its first two elements as required"
+abbrev pub bad-edt : ℕ
+bad-edt = 9
+
+-- 10: "over 16,384 rows or 16,384 data words"
+abbrev pub too-many : ℕ
+too-many = 10
+
+-- 11: "lent table too short"
+abbrev pub table-short : ℕ
+table-short = 11
+
+-- 12: "table to write not well formed"
+abbrev pub not-a-table : ℕ
+not-a-table = 12
+
+-- 13: "more than sixteen of its STRUCs and EDTs one inside another"
+abbrev pub too-nested : ℕ
+too-nested = 13
+
+-- 14: "normal form over 65,536 bytes"
+abbrev pub normal-long : ℕ
+normal-long = 14
+
+-- 15: "lent output too short"
+abbrev pub output-short : ℕ
+output-short = 15
+
+abbrev pub byteLimit : ℕ
+byteLimit = 65536
+
+abbrev pub rowLimit : ℕ
+rowLimit = 16384
+
+abbrev pub wordLimit : ℕ
+wordLimit = 16384
+
+-- "Containers may stand inside one another sixteen deep"
+abbrev pub depthLimit : ℕ
+depthLimit = 16
+
+-- A fault of a message: its number, and "the offset of the faulty object's type-byte". The offset is counted from the start of
+-- whatever is being read, and moved outward with it.
+pub record Fault : Type 0 where
+  pub number : ℕ
+  pub place : ℕ
+
+abbrev pub at : ℕ → ℕ → Fault
+at p n = record { number = n; place = p }
+
+unfoldable pub further : ℕ → Fault → Fault
+further n f = record { number = f .number; place = n + f .place }

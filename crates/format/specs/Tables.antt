@@ -1,0 +1,129 @@
+-- "The table of items": a header, a row of three words for each item, data words.
+use Prim.Native.Nat.{ℕ, zero, suc, _+_, _*_}
+use mathlib.Core.Bool.{Bool, true, false}
+use mathlib.Core.Option.{Option, none, some}
+use mathlib.Core.List.{List, [], _∷_, _++_}
+use lib.ListN.{length, take, drop, getD}
+use lib.Dec.{leb, eqb}
+use Rattle.format.specs.Choice.{pick, ifEq, both}
+use Rattle.format.specs.Numbers.{signed, twos}
+use Rattle.format.specs.Bits.{bit, isOne, spread, packed, wordsFor}
+use Rattle.format.specs.Refusals.{rowLimit, wordLimit}
+use Rattle.format.specs.Items.{Leaf, int, bits, char, bool, empty, xtra, Group, struc, edt, Items, end, leaf, group, leafKind, proper}
+
+-- the items of a list, elements left out: "direct elements", "the number of outermost items"
+unfoldable pub count : Items → ℕ
+count end = 0
+count (leaf l xs) = suc (count xs)
+count (group g c xs) = suc (count xs)
+
+-- "Every item is a row, its elements following it in order."
+unfoldable pub rows : Items → ℕ
+rows end = 0
+rows (leaf l xs) = suc (rows xs)
+rows (group g c xs) = suc (rows c + rows xs)
+
+-- "BITS fill data words in row order, high bit first, each item beginning a new word, spare bits 0."
+unfoldable pub leafWords : Leaf → List ℕ
+unfolding packed wordsFor
+leafWords (int z) = []
+leafWords (bits bs) = packed 64 (wordsFor (length bs)) bs
+leafWords (char c) = []
+leafWords (bool b) = []
+leafWords empty = []
+leafWords (xtra n) = []
+
+unfoldable pub dataWords : Items → List ℕ
+unfolding leafWords
+dataWords end = []
+dataWords (leaf l xs) = leafWords l ++ dataWords xs
+dataWords (group g c xs) = dataWords c ++ dataWords xs
+
+-- the table of kinds: a and b, where `d` data words come before. "A BITS of no bits has as b the data words used so far."
+unfoldable pub leafA : Leaf → ℕ
+leafA (int z) = 0
+leafA (bits bs) = length bs
+leafA (char c) = 0
+leafA (bool b) = 0
+leafA empty = 0
+leafA (xtra n) = 0
+
+unfoldable pub leafB : ℕ → Leaf → ℕ
+unfolding twos bit
+leafB d (int z) = twos 8 z
+leafB d (bits bs) = d
+leafB d (char c) = c
+leafB d (bool b) = bit b
+leafB d empty = 0
+leafB d (xtra n) = n
+
+unfoldable pub rowKind : Group → ℕ
+rowKind struc = 7
+rowKind edt = 8
+
+-- the rows of a list, where `d` data words come before
+unfoldable pub rowWords : ℕ → Items → List ℕ
+unfolding leafKind leafA leafB leafWords rowKind count rows dataWords
+rowWords d end = []
+rowWords d (leaf l xs) = leafKind l ∷ leafA l ∷ leafB d l ∷ rowWords (d + length (leafWords l)) xs
+rowWords d (group g c xs) = rowKind g ∷ count c ∷ rows c ∷ (rowWords d c ++ rowWords (d + length (dataWords c)) xs)
+
+-- "word 0 the number of rows R, word 1 the number of outermost items, word 2 the offset of the data, 4 + 3R, word 3 the number
+-- of data words. Rows follow, three words each: kind, a, b."
+unfoldable pub tableOf : Items → List ℕ
+unfolding rows count dataWords rowWords
+tableOf xs = rows xs ∷ count xs ∷ (4 + 3 * rows xs) ∷ length (dataWords xs) ∷ (rowWords 0 xs ++ dataWords xs)
+
+-- the words that it has
+unfoldable pub wordsNeeded : Items → ℕ
+unfolding rows dataWords
+wordsNeeded xs = 4 + 3 * rows xs + length (dataWords xs)
+
+-- Which items a run of words could be the table of: rows and data words are taken at their word. What they claim is held
+-- against the table of these items below, so what stands here for rows that no table has makes no difference.
+unfoldable pub claimedLeaf : ℕ → ℕ → ℕ → List ℕ → Leaf
+unfolding ifEq signed spread isOne
+claimedLeaf k a b ds =
+    ifEq k 1 (int (signed 8 b)) (ifEq k 2 (bits (take a (spread 64 (drop b ds)))) (ifEq k 3 (char b)
+    (ifEq k 4 (bool (isOne b)) (ifEq k 6 (xtra b) empty))))
+
+unfoldable pub claimed : ℕ → List ℕ → List ℕ → Items
+unfolding ifEq claimedLeaf
+claimed zero ws ds = end
+claimed (suc f) [] ds = end
+claimed (suc f) (k ∷ []) ds = end
+claimed (suc f) (k ∷ a ∷ []) ds = end
+claimed (suc f) (k ∷ a ∷ b ∷ ws) ds =
+    let inside = claimed f (take (3 * b) ws) ds in
+    let after = claimed f (drop (3 * b) ws) ds in
+    let next = claimed f ws ds in
+    let as-struc = group struc inside after in
+    let as-edt = group edt inside after in
+    let as-leaf = leaf (claimedLeaf k a b ds) next in
+    ifEq k 7 as-struc (ifEq k 8 as-edt as-leaf)
+
+unfoldable pub claims : List ℕ → Items
+unfolding claimed
+claims w = claimed (getD w 0 0) (take (3 * getD w 0 0) (drop 4 w)) (drop (4 + 3 * getD w 0 0) w)
+
+-- a list is the beginning of another
+unfoldable pub begins : List ℕ → List ℕ → Bool
+unfolding both
+begins [] w = true
+begins (x ∷ l) [] = false
+begins (x ∷ l) (y ∷ w) = both (eqb x y) (begins l w)
+
+-- "within the row and data limits, EDT rule included"
+unfoldable pub lawful : Items → Bool
+unfolding both proper rows dataWords
+lawful xs = both (proper xs) (both (leb (rows xs) rowLimit) (leb (length (dataWords xs)) wordLimit))
+
+-- "A table is well formed when it is exactly the table of some list of items within the row and data limits, EDT rule included.
+-- Words past the data belong to the caller": those items, or none.
+unfoldable pub tableFor : List ℕ → Items → Option Items
+unfolding pick both lawful begins tableOf
+tableFor w xs = pick (both (lawful xs) (begins (tableOf xs) w)) (some xs) none
+
+unfoldable pub itemsOf : List ℕ → Option Items
+unfolding tableFor claims
+itemsOf w = tableFor w (claims w)

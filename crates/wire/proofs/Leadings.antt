@@ -1,0 +1,142 @@
+-- The INT at the front of contents, found as its meaning says. Assumes nothing.
+use Prim.Native.Nat.{ℕ, suc, _+_, _-_, _*_, _%_, _^_, _≤_, _<_}
+use mathlib.Core.Path.{_≡_, refl, sym, ap, _∙_, subst}
+use mathlib.Core.List.{List, [], _∷_}
+use native.Mathlib.Numerals.{add-one}
+use native.Mathlib.Omega.{arith}
+use lib.ListN.{length, take, drop, getD, length-drop, drop-of-length-le}
+use lib.Seq.{drop-cons, length-take-le}
+use lib.IntN.{pos}
+use types.Run.{OneOf, miss}
+use denote.Enum.Declared.{tagOf}
+use Rattle.format.proofs.Class.{the-type}
+use Rattle.format.specs.declared.Class.{Class}
+use Rattle.format.specs.declared.Class.the-variants as C
+use Rattle.format.specs.Numbers.{Bytes, val, signed, twos}
+use Rattle.format.specs.Classes.{classOf}
+use Rattle.format.specs.Objects as O
+use Rattle.format.proofs.Choices.{ifLt-yes, ifLt-no, split}
+use Rattle.format.proofs.Digits.{bytes-take, bytes-drop, val-lt, mag-signed, signed-twos, pow-le}
+use Rattle.format.proofs.Parts.{rest-part}
+use Rattle.format.proofs.TypeBytes.{InClass, in-class, following-range}
+use Rattle.wire.specs.declared.integer.Leading.{Leading}
+use Rattle.wire.specs.declared.integer.Leading.the-variants.{Short, Found}
+use Rattle.wire.specs.Heads.{LeadingIs, ahead, Unpadded, lintegerAt}
+
+ahead-later : (i : ℕ) (l : O.Leading) → ahead i (O.later l) ≡ ahead (suc i) l
+unfolding ahead O.later
+ahead-later i O.absent = refl
+ahead-later i (O.short p) = ap O.short (omega arith)
+ahead-later i (O.found z u) = ap (O.found z) (omega arith)
+
+ahead-none : (l : O.Leading) → ahead 0 l ≡ l
+unfolding ahead
+ahead-none O.absent = refl
+ahead-none (O.short p) = ap O.short (omega arith)
+ahead-none (O.found z u) = ap (O.found z) (omega arith)
+
+pub skip-none : (s : List ℕ) → O.leading s ≡ ahead 0 (O.leading (drop 0 s))
+skip-none s = sym (ahead-none (O.leading s))
+
+-- one byte of padding more
+pub skip-one : (s : List ℕ) (i : ℕ) → i < length s → getD s i 0 ≡ 0xff → O.leading s ≡ ahead i (O.leading (drop i s))
+    → O.leading s ≡ ahead (i + 1) (O.leading (drop (i + 1) s))
+unfolding O.leading
+skip-one s i h e k =
+    k ∙ ap (λ l. ahead i (O.leading l)) (drop-cons s i 0 h ∙ ap (λ b. b ∷ drop (suc i) s) e)
+    ∙ ahead-later i (O.leading (drop (suc i) s))
+    ∙ (rw (add-one i) refl)
+
+pub skip-all : (s : List ℕ) (i : ℕ) → length s ≤ i → Unpadded s i → O.leading s ≡ O.absent
+unfolding O.leading ahead
+skip-all s i h u = u .skipped ∙ ap (λ l. ahead i (O.leading l)) (drop-of-length-le s h)
+
+-- what the type-byte behind the padding makes it
+at-class : (s : List ℕ) (i b : ℕ) (c : Class) → i < length s → b ≡ getD s i 0 → c ≡ classOf b → Unpadded s i
+    → O.leading s ≡ ahead i (O.leadingBy c b (drop (suc i) s) (O.leading (drop (suc i) s)))
+unfolding O.leading
+at-class s i b c h eb ec u =
+    u .skipped ∙ ap (λ l. ahead i (O.leading l)) (drop-cons s i 0 h ∙ ap (λ x. x ∷ drop (suc i) s) (sym eb))
+    ∙ ap (λ k. ahead i (O.leadingBy k b (drop (suc i) s) (O.leading (drop (suc i) s)))) (sym ec)
+
+-- a small number is itself as a word
+pub signed-small : (n : ℕ) → n < 2 ^ 63 → signed 8 n ≡ pos n
+unfolding signed
+signed-small n h = let l : 2 * n < 256 ^ 8 = omega arith in ifLt-yes (2 * n) (256 ^ 8) _ _ l
+
+pub leading-small : (s : List ℕ) (i b : ℕ) → i < length s → b ≡ getD s i 0 → C.Sinteger ≡ classOf b → Unpadded s i
+    → LeadingIs s (Found (b % 64) (i + 1))
+unfolding O.leadingBy ahead
+leading-small s i b h eb ec u =
+    let r : InClass b C.Sinteger = subst (InClass b) (sym ec) (in-class b) in
+    let e : b % 64 ≡ b - 128 = omega (arith, r .0, r .1) in
+    let l : b % 64 < 2 ^ 63 = omega arith in
+    (at-class s i b C.Sinteger h eb ec u ∙ ap (λ z. O.found z (i + 1)) (ap pos (sym e) ∙ sym (signed-small (b % 64) l)), omega arith)
+
+-- the value of up to eight bytes comes back from its word
+pub integer-back : (p : List ℕ) → Bytes p → length p ≤ 8 → signed 8 (twos 8 (O.integer p)) ≡ O.integer p
+unfolding O.integer
+integer-back p h l =
+    signed-twos 8 (signed (length p) (val p)) (omega arith)
+    (let a = mag-signed (length p) (val p) (val-lt p h) in omega (arith, pow-le {i = length p} {j = 8} l))
+
+pub linteger-short : (s : List ℕ) (i b k : ℕ) → k ≡ O.following b → length s - (i + 1) < k → Short i ≡ lintegerAt s i b
+unfolding lintegerAt
+linteger-short s i b k ek l = sym (ifLt-yes (length s - (i + 1)) (O.following b) _ _ (rw ek at l))
+
+pub linteger-found : (s : List ℕ) (i b k v : ℕ) → k ≡ O.following b → k ≤ length s - (i + 1)
+    → v ≡ twos 8 (O.integer (take k (take (length s - (i + 1)) (drop (i + 1) s)))) → Found v (i + 1 + k) ≡ lintegerAt s i b
+unfolding lintegerAt
+linteger-found s i b k v ek g ev =
+    rw (ev, rest-part s (i + 1), ek) (sym (ifLt-no (length s - (i + 1)) (O.following b) _ _ (rw ek at g)))
+
+pub leading-long : (s : List ℕ) (i b : ℕ) → Bytes s → i < length s → b ≡ getD s i 0 → C.Linteger ≡ classOf b → Unpadded s i
+    → LeadingIs s (lintegerAt s i b)
+unfolding O.leadingBy ahead lintegerAt
+leading-long s i b hb h eb ec u =
+    let e = at-class s i b C.Linteger h eb ec u in
+    let n : length (drop (suc i) s) ≡ length s - (i + 1) = length-drop (suc i) s ∙ omega arith in
+    let f = following-range b in
+    split (length s - (i + 1)) (O.following b)
+    (λ l.
+    let m : length (drop (suc i) s) < O.following b = omega arith in
+    rw (ifLt-yes (length s - (i + 1)) (O.following b))
+    (rw (ifLt-yes (length (drop (suc i) s)) (O.following b)) at e ∙ ap O.short (let z : i + 0 ≡ i = omega arith in z), h))
+    (λ g.
+    let m : O.following b ≤ length (drop (suc i) s) = omega arith in
+    let p : length (take (O.following b) (drop (suc i) s)) ≡ O.following b = length-take-le (O.following b) (drop (suc i) s) m in
+    let q : signed 8 (twos 8 (O.integer (take (O.following b) (drop (suc i) s)))) ≡ O.integer (take (O.following b) (drop (suc i) s))
+    = integer-back (take (O.following b) (drop (suc i) s)) (bytes-take (O.following b) (drop (suc i) s) (bytes-drop (suc i) s hb)) (omega arith) in
+    rw (ifLt-no (length s - (i + 1)) (O.following b), add-one i)
+    ((rw (ifLt-no (length (drop (suc i) s)) (O.following b)) at e) ∙ (rw q (ap (O.found (O.integer (take (O.following b) (drop (suc i) s)))) (omega arith))), omega arith))
+
+-- the classes that are neither of an integer nor padding, by their places in the enum
+abbrev pub tags : List ℕ
+tags = 0 ∷ 3 ∷ 4 ∷ 5 ∷ 6 ∷ 7 ∷ 8 ∷ 9 ∷ 10 ∷ 11 ∷ 12 ∷ 13 ∷ 14 ∷ []
+
+pub no-integer : (c : Class) (b : ℕ) (s : List ℕ) (more : O.Leading) → OneOf tags (tagOf the-type c) → (c ≡ C.Padding → ⊥) → O.leadingBy c b s more ≡ O.absent
+unfolding O.leadingBy
+no-integer C.Char7 b s more k p = refl
+no-integer C.Sinteger b s more k p = absurd (miss tags 1 tt k)
+no-integer C.Linteger b s more k p = absurd (miss tags 2 tt k)
+no-integer C.Sbitstr b s more k p = refl
+no-integer C.Lbitstr b s more k p = refl
+no-integer C.String b s more k p = refl
+no-integer C.Struc b s more k p = refl
+no-integer C.Ustruc b s more k p = refl
+no-integer C.Edt b s more k p = refl
+no-integer C.Repeat b s more k p = refl
+no-integer C.Xtra b s more k p = refl
+no-integer C.Bool b s more k p = refl
+no-integer C.Empty b s more k p = refl
+no-integer C.Padding b s more k p = absurd (p refl)
+no-integer C.Reserved b s more k p = refl
+
+-- any other class, where the byte is no padding
+pub leading-other : (s : List ℕ) (i b : ℕ) (c : Class) → i < length s → b ≡ getD s i 0 → b < 256 → c ≡ classOf b → Unpadded s i
+    → OneOf tags (tagOf the-type c) → O.leading s ≡ O.absent
+unfolding ahead
+leading-other s i b c h eb hb ec u k =
+    at-class s i b c h eb ec u
+    ∙ ap (ahead i) (no-integer c b (drop (suc i) s) (O.leading (drop (suc i) s)) k
+    (λ p. let r : InClass b C.Padding = subst (InClass b) (sym ec ∙ p) (in-class b) in u .there h (let e : getD s i 0 ≡ 0xff = omega arith in e)))

@@ -1,0 +1,5 @@
+pub mod Sizes
+pub mod Integers
+pub mod Leadings
+pub mod ShortBits
+pub mod HeadLaws

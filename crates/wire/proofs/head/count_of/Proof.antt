@@ -1,0 +1,63 @@
+-- `head::count_of` meets its contract. Assumes nothing.
+use native.Mathlib.Omega.{arith}
+use mathlib.Core.Path.{subst}
+use Rattle.wire.specs.Heads.{LeadingIs}
+use Rattle.wire.proofs.HeadLaws.{count-absent, count-short, count-negative, count-right}
+use borrow.Author.Needs.{needs}
+use Rattle.wire.proofs.head.count_of.Statement.{statement}
+use Rattle.wire.proofs.head.count_of.Tie as tie
+
+leading-of-requires : tie.Need-leading-of-requires
+leading-of-requires c κs = search needs
+
+enum-told : tie.Need-enum-told
+enum-told c = search needs
+
+enum-known-l : tie.Need-enum-known-l
+enum-known-l c = search needs
+
+add-t9 : tie.Need-add-t9
+add-t9 c = search needs
+
+add-t10 : tie.Need-add-t10
+add-t10 c =
+    let r = subst (LeadingIs (c .before .before .before .before .before .args .c .now)) (c .before .l .given .1) (c .before .before .before .leading-of .ensures) in
+    omega (arith, r .1)
+
+enum-known-l-2 : tie.Need-enum-known-l-2
+enum-known-l-2 c = search needs
+
+returns : tie.Need-returns
+returns c =
+    let r = subst (LeadingIs (c .before .before .before .before .before .before .args .c .now)) (c .before .before .l2 .given .1) (c .before .before .before .before .leading-of .ensures) in
+    count-negative (c .before .before .before .before .before .before .args .why) (c .before .before .before .before .before .before .args .h) (c .before .before .l2 .given .0 .0) (c .before .before .l2 .given .0 .1 .0) (c .before .before .before .before .before .before .args .c .now) (r .0) (omega arith)
+
+returns-2 : tie.Need-returns-2
+returns-2 c =
+    let r = subst (LeadingIs (c .before .before .before .before .args .c .now)) (c .enum-told .given .1) (c .before .before .leading-of .ensures) in
+    count-absent (c .before .before .before .before .args .why) (c .before .before .before .before .args .h) (c .before .before .before .before .args .c .now) r
+
+returns-3 : tie.Need-returns-3
+returns-3 c =
+    let r = subst (LeadingIs (c .before .before .before .before .before .args .c .now)) (c .before .l .given .1) (c .before .before .before .leading-of .ensures) in
+    count-short (c .before .before .before .before .before .args .why) (c .before .before .before .before .before .args .h) (c .before .l .given .0 .0) (c .before .before .before .before .before .args .c .now) (r .0)
+
+returns-4 : tie.Need-returns-4
+returns-4 c =
+    let r = subst (LeadingIs (c .before .before .before .before .before .before .args .c .now)) (c .before .before .l2 .given .1) (c .before .before .before .before .leading-of .ensures) in
+    count-right (c .before .before .before .before .before .before .args .why) (c .before .before .before .before .before .before .args .h) (c .before .before .l2 .given .0 .0) (c .before .before .l2 .given .0 .1 .0) (c .before .before .before .before .before .before .args .c .now) (r .0) (omega arith) (r .1)
+
+pub count-of-spec : {M : Type 1} → statement M
+count-of-spec =
+    tie.close
+    (tie.spec
+    leading-of-requires
+    enum-told
+    enum-known-l
+    add-t9
+    add-t10
+    enum-known-l-2
+    returns
+    returns-2
+    returns-3
+    returns-4)

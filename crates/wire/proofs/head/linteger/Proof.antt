@@ -1,0 +1,26 @@
+-- `head::linteger` meets its contract. Assumes nothing.
+use native.Mathlib.Omega.{arith}
+use Rattle.wire.proofs.HeadLaws.{linteger-stop, linteger-row}
+use borrow.Author.Needs.{needs}
+use Rattle.wire.proofs.head.linteger.Statement.{statement}
+use Rattle.wire.proofs.head.linteger.Tie as tie
+
+following-of-requires : tie.Need-following-of-requires
+following-of-requires c κs = search needs
+
+past-of-requires : tie.Need-past-of-requires
+past-of-requires c κs = search needs
+
+returns : tie.Need-returns
+returns c = linteger-stop (c .before .before .before .before .args .depth) (c .before .before .before .before .args .b) (c .before .before .following-of .result) (c .past-of .result) (c .before .before .before .before .args .s .now) (c .before .before .following-of .ensures .0) (c .before .if1 .taken) (c .past-of .ensures)
+
+integer-of-requires : tie.Need-integer-of-requires
+integer-of-requires c κs = search needs
+
+returns-2 : tie.Need-returns-2
+returns-2 c = linteger-row (c .before .before .before .before .args .depth) (c .before .before .before .before .args .b) (c .before .before .following-of .result) (c .integer-of .result) (c .before .before .before .before .args .s .now) (c .before .before .following-of .ensures .0) (omega arith) (c .integer-of .ensures)
+
+pub linteger-spec : {M : Type 1} → statement M
+linteger-spec =
+    tie.close
+    (tie.spec following-of-requires past-of-requires returns integer-of-requires returns-2)

@@ -1,0 +1,86 @@
+-- `size::extent_of` meets its contract. Assumes nothing.
+use Prim.Native.Nat.{_+_, min}
+use mathlib.Core.Path.{_≡_, refl, sym, subst}
+use native.Mathlib.Omega.{arith}
+use lib.ListN.{take, drop}
+use Rattle.format.specs.Numbers.{val}
+use Rattle.wire.specs.Extents.{ExtentIs}
+use Rattle.wire.proofs.Sizes.{extent-cut, extent-is, size-none, size-zero, size-short, size-long, size-long-cut}
+use borrow.Author.Needs.{needs}
+use Rattle.wire.proofs.size.extent_of.Statement.{statement}
+use Rattle.wire.proofs.size.extent_of.Tie as tie
+
+returns : tie.Need-returns
+returns c = extent-cut (c .before .before .args .s .now) (size-none (c .before .before .args .s .now) (omega arith))
+
+shared-slice-read-b : tie.Need-shared-slice-read-b
+shared-slice-read-b c = search needs
+
+extent-at-requires : tie.Need-extent-at-requires
+extent-at-requires c κs = search needs
+
+returns-2 : tie.Need-returns-2
+returns-2 c =
+    let s = c .before .before .before .before .before .args .s .now in
+    subst (ExtentIs s) (sym (c .extent-at .ensures))
+    (extent-is s 1 128 128 (size-zero s (omega arith) (c .before .if2 .taken)) refl (omega arith) (omega arith))
+
+wide-requires : tie.Need-wide-requires
+wide-requires c κs = search needs
+
+extent-at-requires-2 : tie.Need-extent-at-requires-2
+extent-at-requires-2 c κs = search needs
+
+returns-3 : tie.Need-returns-3
+returns-3 c =
+    let s = c .before .before .before .before .before .before .before .args .s .now in
+    let e : c .before .wide .result ≡ min (lib.ListN.getD s 0 0) 65537 = omega arith in
+    subst (ExtentIs s) (sym (c .extent-at2 .ensures))
+    (extent-is s 1 (lib.ListN.getD s 0 0) (c .before .wide .result) (size-short s (omega arith) (c .before .before .if3 .taken) (c .before .before .before .if2 .left)) e (omega arith) (omega arith))
+
+long-count-requires : tie.Need-long-count-requires
+long-count-requires c κs = search needs
+
+sub-if4 : tie.Need-sub-if4
+sub-if4 c = search needs
+
+returns-4 : tie.Need-returns-4
+returns-4 c =
+    let s = c .before .before .before .before .before .before .before .args .s .now in
+    extent-cut s (size-long-cut s (c .before .long-count .result) (omega arith) (omega arith) (c .before .long-count .ensures) (omega arith))
+
+long-size-requires : tie.Need-long-size-requires
+long-size-requires c κs = search needs
+
+add-extent-at : tie.Need-add-extent-at
+add-extent-at c = search needs
+
+extent-at-requires-3 : tie.Need-extent-at-requires-3
+extent-at-requires-3 c κs = search needs
+
+returns-5 : tie.Need-returns-5
+returns-5 c =
+    let s = c .before .before .before .before .before .before .before .before .before .args .s .now in
+    let k = c .before .before .before .long-count .result in
+    subst (ExtentIs s) (sym (c .extent-at3 .ensures))
+    (extent-is s (1 + k) (val (take k (drop 1 s))) (c .before .long-size .result)
+    (size-long s k (omega arith) (omega arith) (c .before .before .before .long-count .ensures) (omega arith)) (c .before .long-size .ensures) (omega arith) (omega arith))
+
+pub extent-of-spec : {M : Type 1} → statement M
+extent-of-spec =
+    tie.close
+    (tie.spec
+    returns
+    shared-slice-read-b
+    extent-at-requires
+    returns-2
+    wide-requires
+    extent-at-requires-2
+    returns-3
+    long-count-requires
+    sub-if4
+    returns-4
+    long-size-requires
+    add-extent-at
+    extent-at-requires-3
+    returns-5)

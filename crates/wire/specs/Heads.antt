@@ -1,0 +1,94 @@
+-- What the code's answers about one object say of its meaning.
+use Prim.Native.Nat.{ℕ, _+_, _-_, _^_, _≤_, _<_}
+use mathlib.Core.Path.{_≡_}
+use mathlib.Core.Logic.{_≢_}
+use mathlib.Core.Bool.{Bool}
+use mathlib.Core.List.{List, []}
+use lib.ListN.{length, take, drop, getD}
+use Rattle.format.specs.Choice.{ifLt, ifEq}
+use Rattle.format.specs.Bits.{spread, adjusted, bytesFor}
+use Rattle.format.specs.Refusals.{at}
+use Rattle.format.specs.Items.{Leaf, bits, struc, end, group, one, leafKind}
+use Rattle.format.specs.Tables.{leafA, leafB, leafWords}
+use Rattle.format.specs.Numbers.{signed, twos}
+use Rattle.format.specs.Objects as O
+use Rattle.wire.specs.declared.integer.Leading.{Leading}
+use Rattle.wire.specs.declared.integer.Leading.the-variants as L
+use Rattle.wire.specs.declared.head.Wrap.{Wrap}
+use Rattle.wire.specs.declared.head.Wrap.the-variants.{Struc, Ustruc, Edt, Repeat}
+use Rattle.wire.specs.declared.head.Contained.{Contained}
+use Rattle.wire.specs.declared.head.Contained.the-variants.{Outside, Inside}
+use Rattle.wire.specs.declared.head.Counted.{Counted}
+use Rattle.wire.specs.declared.head.Counted.the-variants.{Wrong, Right}
+use Rattle.wire.specs.declared.head.Head.{Head}
+use Rattle.wire.specs.declared.head.Head.the-variants.{Stop, Gap, Row, Short, Long, Text, Open}
+
+abbrev pub LeadingIs : List ℕ → Leading → Type 0
+LeadingIs s L.Absent = O.leading s ≡ O.absent
+LeadingIs s (L.Short p) = (O.leading s ≡ O.short p) × (p < length s)
+LeadingIs s (L.Found v u) = (O.leading s ≡ O.found (signed 8 v) u) × (u ≤ length s)
+
+-- what is found i bytes further on
+unfoldable pub ahead : ℕ → O.Leading → O.Leading
+ahead i O.absent = O.absent
+ahead i (O.short p) = O.short (i + p)
+ahead i (O.found z u) = O.found z (i + u)
+
+-- padding up to i, and none there
+pub record Unpadded (s : List ℕ) (i : ℕ) : Type 0 where
+  pub within : i ≤ length s
+  pub skipped : O.leading s ≡ ahead i (O.leading (drop i s))
+  pub there : i < length s → getD s i 0 ≢ 0xff
+
+-- an LINTEGER whose type-byte b stands at i
+unfoldable pub lintegerAt : List ℕ → ℕ → ℕ → Leading
+unfolding ifLt O.following O.integer twos
+lintegerAt s i b =
+    ifLt (length s - (i + 1)) (O.following b) (L.Short i) (L.Found (twos 8 (O.integer (take (O.following b) (drop (i + 1) s)))) (i + 1 + O.following b))
+
+-- a container's contents, whatever it makes of them
+abbrev pub ContainedIs : ℕ → List ℕ → Contained → Type 0
+ContainedIs d s (Outside n) = (f : ℕ → ℕ → O.Head) → O.container d (O.sized d s f) ≡ O.stop (at 0 n)
+ContainedIs d s (Inside h n) = ((f : ℕ → ℕ → O.Head) → O.container d (O.sized d s f) ≡ f h n) × (h + n ≤ length s)
+
+-- the length or count at the front of the contents s, which start at h, whatever is made of it
+abbrev pub CountedIs : ℕ → ℕ → List ℕ → Counted → Type 0
+CountedIs why h s (Wrong n p) = (f : ℕ → ℕ → O.Head) → O.counted why h f (O.leading s) ≡ O.stop (at p n)
+CountedIs why h s (Right n u) = ((f : ℕ → ℕ → O.Head) → O.counted why h f (O.leading s) ≡ f n u) × (u ≤ length s) × (n < 2 ^ 63)
+
+unfoldable pub wrapOf : Wrap → O.Wrap
+wrapOf Struc = O.as-struc
+wrapOf Ustruc = O.as-ustruc
+wrapOf Edt = O.as-edt
+wrapOf (Repeat k) = O.repeated k
+
+unfoldable pub longBits : ℕ → ℕ → ℕ → ℕ → Head
+unfolding ifEq bytesFor
+longBits h size n u = ifEq (size - u) (bytesFor n) (Long (h + u) n (h + size)) (Stop 6 0)
+
+-- an item whose row is k, 0 and v, with no data words
+pub record IsRow (l : Leaf) (k v : ℕ) : Type 0 where
+  pub kind : leafKind l ≡ k
+  pub first : leafA l ≡ 0
+  pub last : (d : ℕ) → leafB d l ≡ v
+  pub none : leafWords l ≡ []
+
+-- n bits, at most 63, left-adjusted in the word w
+pub record IsShort (bs : List Bool) (n w : ℕ) : Type 0 where
+  pub many : length bs ≡ n
+  pub few : n ≤ 63
+  pub word : adjusted 64 bs ≡ w
+
+-- the n bits that are left-adjusted in the bytes needed for them from a on
+abbrev pub bitsFrom : List ℕ → ℕ → ℕ → List Bool
+bitsFrom s a n = take n (spread 8 (take (bytesFor n) (drop a s)))
+
+-- what the code answers about an object is what its head means
+abbrev pub HeadIs : List ℕ → Head → O.Head → Type 0
+HeadIs s (Stop n p) h = h ≡ O.stop (at p n)
+HeadIs s Gap h = h ≡ O.gives end 0
+HeadIs s (Row k v u) h = (l : Leaf) × (h ≡ O.gives (one l) u) × IsRow l k v
+HeadIs s (Short n w u) h = (bs : List Bool) × (h ≡ O.gives (one (bits bs)) u) × IsShort bs n w
+HeadIs s (Long a n u) h = (h ≡ O.gives (one (bits (bitsFrom s a n))) u) × (a + bytesFor n ≡ u) × (u ≤ length s)
+HeadIs s (Text a n) h = (h ≡ O.gives (group struc (O.characters (O.contents s a n)) end) (a + n)) × (a + n ≤ length s)
+HeadIs s (Open w a n) h = (h ≡ O.opens (wrapOf w) a n) × (a + n ≤ length s)

@@ -1,0 +1,4 @@
+// What stands at one object's type-byte, read from the bytes. Nothing here goes into contents.
+pub mod head;
+pub mod integer;
+pub mod size;

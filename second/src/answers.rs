@@ -1,0 +1,61 @@
+//! The answers of the public operations, their numbers, and the limits.
+
+/// A message, and a normal form, has at most this many bytes.
+pub const MOST_BYTES: usize = 65_536;
+/// A table has at most this many rows.
+pub const MOST_ROWS: u64 = 16_384;
+/// A table has at most this many data words.
+pub const MOST_DATA_WORDS: u64 = 16_384;
+/// Containers stand inside one another at most this deep.
+pub const MOST_NESTED: usize = 16;
+
+pub const ACCEPTED: u64 = 0;
+pub const INPUT_TOO_LONG: u64 = 1;
+pub const CUT_OUTERMOST: u64 = 2;
+pub const CUT_INNER: u64 = 3;
+pub const RESERVED_TYPE: u64 = 4;
+pub const TOO_DEEP: u64 = 5;
+pub const BAD_BITS: u64 = 6;
+pub const BAD_REPEAT: u64 = 7;
+pub const SEVERAL_KINDS: u64 = 8;
+pub const BAD_EDT: u64 = 9;
+pub const TABLE_OVER_LIMITS: u64 = 10;
+pub const TABLE_TOO_SHORT: u64 = 11;
+pub const NOT_WELL_FORMED: u64 = 12;
+pub const ITEMS_TOO_DEEP: u64 = 13;
+pub const FORM_TOO_LONG: u64 = 14;
+pub const OUTPUT_TOO_SHORT: u64 = 15;
+
+/// What reading answers: the words are those used with number 0, those needed
+/// with number 11, and otherwise 0.
+#[derive(Clone, Copy, Debug, PartialEq, Eq)]
+pub struct Reading {
+    pub number: u64,
+    pub place: u64,
+    pub words: u64,
+}
+
+/// What writing answers: the length is that written with number 0, that needed
+/// with number 15, and otherwise 0.
+#[derive(Clone, Copy, Debug, PartialEq, Eq)]
+pub struct Writing {
+    pub number: u64,
+    pub length: u64,
+}
+
+/// What normalising answers: the first refusal, with reading's place and words
+/// and writing's length.
+#[derive(Clone, Copy, Debug, PartialEq, Eq)]
+pub struct Normalising {
+    pub number: u64,
+    pub place: u64,
+    pub words: u64,
+    pub length: u64,
+}
+
+/// A fault met in a message, at the offset of the faulty object's type-byte.
+#[derive(Clone, Copy, Debug, PartialEq, Eq)]
+pub struct Fault {
+    pub number: u64,
+    pub place: usize,
+}

@@ -1,0 +1,36 @@
+//! A second, independent reader and writer for RFC 713 messages.
+//!
+//! Reading scans a whole message and measures its table before a word of the
+//! lent table changes, then fills it. Writing judges a whole table and measures
+//! its normal form before a byte of the lent output changes, then writes it.
+//! Neither takes memory of its own beyond a small stack.
+
+#![forbid(unsafe_code)]
+
+mod answers;
+mod bits;
+mod classes;
+pub mod command;
+mod copy;
+mod deep;
+mod emit;
+mod fill;
+mod heads;
+mod integers;
+mod judge;
+mod kinds;
+mod listing;
+mod normal;
+mod read;
+mod scan;
+mod sizes;
+mod stretch;
+mod summary;
+mod write;
+
+pub use answers::{Normalising, Reading, Writing};
+pub use answers::{MOST_BYTES, MOST_DATA_WORDS, MOST_NESTED, MOST_ROWS};
+pub use listing::{listing, LISTING_BYTES, LISTING_WORDS};
+pub use normal::normalise;
+pub use read::read;
+pub use write::{normal_length, write};

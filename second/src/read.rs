@@ -1,0 +1,50 @@
+//! Reading: from a message to a table.
+
+use crate::answers::{
+    Fault, Reading, ACCEPTED, INPUT_TOO_LONG, MOST_BYTES, MOST_DATA_WORDS, MOST_ROWS,
+    TABLE_OVER_LIMITS, TABLE_TOO_SHORT,
+};
+use crate::summary::Summary;
+use crate::{fill, scan};
+
+/// Reads a message into a lent table. A refusal leaves the table as it was;
+/// words past those used are never changed.
+pub fn read(message: &[u8], table: &mut [u64]) -> Reading {
+    if message.len() > MOST_BYTES {
+        return refused(INPUT_TOO_LONG, 0, 0);
+    }
+    let sum = match scan::message(message) {
+        Ok(sum) => sum,
+        Err(Fault { number, place }) => return refused(number, place as u64, 0),
+    };
+    if sum.rows() > MOST_ROWS || sum.data_words > MOST_DATA_WORDS {
+        return refused(TABLE_OVER_LIMITS, 0, 0);
+    }
+    let words = 4 + 3 * sum.rows() + sum.data_words;
+    if words > table.len() as u64 {
+        return refused(TABLE_TOO_SHORT, 0, words);
+    }
+    fill_table(message, &sum, &mut table[..words as usize]);
+    Reading {
+        number: ACCEPTED,
+        place: 0,
+        words,
+    }
+}
+
+fn refused(number: u64, place: u64, words: u64) -> Reading {
+    Reading {
+        number,
+        place,
+        words,
+    }
+}
+
+fn fill_table(message: &[u8], sum: &Summary, table: &mut [u64]) {
+    let data = 4 + 3 * sum.rows();
+    let (header, rest) = table.split_at_mut(4);
+    header.copy_from_slice(&[sum.rows(), sum.elements, data, sum.data_words]);
+    let (rows, data) = rest.split_at_mut(3 * sum.rows() as usize);
+    let (rows, _) = rows.as_chunks_mut::<3>();
+    fill::message(message, rows, data);
+}

@@ -1,0 +1,154 @@
+//! The scan of a message: the first fault, or the measure of its table.
+
+use crate::answers::{
+    Fault, BAD_BITS, BAD_EDT, BAD_REPEAT, CUT_INNER, CUT_OUTERMOST, MOST_NESTED, RESERVED_TYPE,
+    SEVERAL_KINDS, TOO_DEEP,
+};
+use crate::classes::{class_of, Class};
+use crate::kinds::sets;
+use crate::summary::Summary;
+use crate::{bits, heads, integers, sizes, stretch};
+use std::ops::Range;
+
+/// Scans a whole message.
+pub fn message(bytes: &[u8]) -> Result<Summary, Fault> {
+    run(bytes, 0, 0)
+}
+
+/// Scans the objects from `at` to the end of `bytes`, which is the end of the
+/// enclosing object. They stand inside `inside` containers.
+fn run(bytes: &[u8], mut at: usize, inside: usize) -> Result<Summary, Fault> {
+    let mut sum = Summary::NOTHING;
+    while at < bytes.len() {
+        let rest = &bytes[at..];
+        let class = class_of(rest[0]);
+        at = match class {
+            Class::Padding => at + stretch::of_padding(rest),
+            Class::Char7 => at + leaves(&mut sum, sets::CHAR, stretch::of_char7(rest)),
+            Class::Sinteger => at + leaves(&mut sum, sets::INT, stretch::of_sinteger(rest)),
+            Class::Bool => at + leaves(&mut sum, sets::BOOL, 1),
+            Class::Empty => at + leaves(&mut sum, sets::EMPTY, 1),
+            Class::Xtra => at + leaves(&mut sum, sets::XTRA, 1),
+            Class::Linteger => long_integer(&mut sum, bytes, at, inside)?,
+            Class::Sbitstr => short_bits(&mut sum, bytes, at, inside)?,
+            Class::Lbitstr => long_bits(&mut sum, bytes, at, inside)?,
+            Class::Reserved => return Err(fault(RESERVED_TYPE, at)),
+            _ => container(&mut sum, class, bytes, at, inside)?,
+        };
+    }
+    Ok(sum)
+}
+
+#[inline(always)]
+fn leaves(sum: &mut Summary, kind: u64, count: usize) -> usize {
+    sum.add_leaves(kind, count);
+    count
+}
+
+#[inline(always)]
+fn fault(number: u64, place: usize) -> Fault {
+    Fault { number, place }
+}
+
+/// The fault of an object at `at` that needs bytes past the end.
+#[cold]
+fn cut(at: usize, inside: usize) -> Fault {
+    let number = if inside == 0 {
+        CUT_OUTERMOST
+    } else {
+        CUT_INNER
+    };
+    fault(number, at)
+}
+
+#[inline(always)]
+fn long_integer(sum: &mut Summary, bytes: &[u8], at: usize, inside: usize) -> Result<usize, Fault> {
+    let after = at + 1 + integers::data_width(bytes[at]);
+    if after > bytes.len() {
+        return Err(cut(at, inside));
+    }
+    sum.add_leaves(sets::INT, 1);
+    Ok(after)
+}
+
+#[inline(always)]
+fn short_bits(sum: &mut Summary, bytes: &[u8], at: usize, inside: usize) -> Result<usize, Fault> {
+    let width = integers::data_width(bytes[at]);
+    if at + 1 + width > bytes.len() {
+        return Err(cut(at, inside));
+    }
+    if bytes[at + 1] == 0 {
+        return Err(fault(BAD_BITS, at));
+    }
+    let no_bits = width == 1 && bytes[at + 1] == 1;
+    sum.add_bits(if no_bits { 0 } else { 1 });
+    Ok(at + 1 + width)
+}
+
+fn long_bits(sum: &mut Summary, bytes: &[u8], at: usize, inside: usize) -> Result<usize, Fault> {
+    let contents = sizes::contents(bytes, at).ok_or_else(|| cut(at, inside))?;
+    let end = contents.end;
+    let stream = bits::long_stream(bytes, at, contents)?;
+    sum.add_bits(bits::words_for(stream.bits));
+    Ok(end)
+}
+
+/// Scans the container at `at` and adds what it gives to the enclosing run.
+#[inline(always)]
+fn container(
+    sum: &mut Summary,
+    class: Class,
+    bytes: &[u8],
+    at: usize,
+    inside: usize,
+) -> Result<usize, Fault> {
+    if class == Class::Repeat && inside == 0 {
+        return Err(fault(BAD_REPEAT, at));
+    }
+    if inside == MOST_NESTED {
+        return Err(fault(TOO_DEEP, at));
+    }
+    let contents = sizes::contents(bytes, at).ok_or_else(|| cut(at, inside))?;
+    let end = contents.end;
+    match class {
+        Class::String => sum.add_container(sets::STRING, contents.len() as u64, 0),
+        Class::Repeat => repeat(sum, bytes, at, contents, inside)?,
+        _ => structure(sum, class, bytes, at, contents, inside)?,
+    }
+    Ok(end)
+}
+
+#[inline(always)]
+fn repeat(
+    sum: &mut Summary,
+    bytes: &[u8],
+    at: usize,
+    contents: Range<usize>,
+    inside: usize,
+) -> Result<(), Fault> {
+    let within = &bytes[..contents.end];
+    let count = heads::count(within, contents.start, fault(BAD_REPEAT, at))?;
+    let pattern = run(within, count.after, inside + 1)?;
+    sum.add_repeated(&pattern, count.value);
+    Ok(())
+}
+
+#[inline(always)]
+fn structure(
+    sum: &mut Summary,
+    class: Class,
+    bytes: &[u8],
+    at: usize,
+    contents: Range<usize>,
+    inside: usize,
+) -> Result<(), Fault> {
+    let elements = run(&bytes[..contents.end], contents.start, inside + 1)?;
+    let kind = match class {
+        Class::Edt if !elements.begins_edt() => return Err(fault(BAD_EDT, at)),
+        Class::Ustruc if !elements.is_uniform() => return Err(fault(SEVERAL_KINDS, at)),
+        Class::Edt => sets::EDT,
+        _ => elements.kind_of_struc(),
+    };
+    sum.add_container(kind, elements.rows(), elements.data_words);
+    Ok(())
+}

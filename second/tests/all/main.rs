@@ -1,0 +1,16 @@
+//! The tests of the second program, as one crate.
+
+mod agreement;
+mod chance;
+mod every;
+mod exhaustive;
+mod hostile;
+mod item_notation;
+mod lent;
+mod makers;
+mod notation;
+mod plain;
+mod random;
+mod requests;
+mod small_tables;
+mod vectors;

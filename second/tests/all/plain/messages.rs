@@ -1,0 +1,210 @@
+//! The items that a message says. Repeats are laid out in memory, up to a cap
+//! that no answer depends on.
+
+use super::items::Item::{self, Bits, Bool, Char, Edt, Empty, Int, Struc, Xtra};
+use super::items::{bits_of, data_words, has_heads, is_string, kind, rows, signed};
+
+/// A refusal with its number and place.
+pub type Refusal = (u64, u64);
+
+/// The items of a message, or why it says none.
+pub fn items(message: &[u8]) -> Result<Vec<Item>, Refusal> {
+    if message.len() > 65_536 {
+        return Err((1, 0));
+    }
+    let items = run(message, 0, message.len(), 0)?;
+    if rows(&items) > 16_384 || data_words(&items) > 16_384 {
+        return Err((10, 0));
+    }
+    Ok(items)
+}
+
+/// The objects from `at` to `end`, inside `inside` containers.
+fn run(message: &[u8], mut at: usize, end: usize, inside: usize) -> Result<Vec<Item>, Refusal> {
+    let mut items = Vec::new();
+    while at < end {
+        if message[at] == 0xFF {
+            at += 1;
+        } else {
+            let (made, after) = object(message, at, end, inside)?;
+            items.extend(made);
+            at = after;
+        }
+    }
+    Ok(items)
+}
+
+/// The object at `at`: the items it gives, and where it ends.
+fn object(
+    message: &[u8],
+    at: usize,
+    end: usize,
+    inside: usize,
+) -> Result<(Vec<Item>, usize), Refusal> {
+    let byte = message[at];
+    let leaf = |item| Ok((vec![item], at + 1));
+    match byte {
+        0x00..=0x7F => leaf(Char(byte)),
+        0x80..=0xBF => leaf(Int(byte as i64 - 0x80)),
+        0xC0 | 0xC7..=0xDF | 0xE8..=0xEF => Err((4, at as u64)),
+        0xC1..=0xC6 => sized(message, at, end, inside),
+        0xE0..=0xE7 | 0xF0..=0xF7 => atomic(message, at, end, inside),
+        0xF8..=0xFB => leaf(Xtra(byte - 0xF8)),
+        0xFC | 0xFD => leaf(Bool(byte == 0xFD)),
+        0xFE => leaf(Empty),
+        0xFF => unreachable!("padding is skipped before"),
+    }
+}
+
+fn cut(at: usize, inside: usize) -> Refusal {
+    (if inside == 0 { 2 } else { 3 }, at as u64)
+}
+
+/// A LINTEGER or SBITSTR.
+fn atomic(
+    message: &[u8],
+    at: usize,
+    end: usize,
+    inside: usize,
+) -> Result<(Vec<Item>, usize), Refusal> {
+    let width = match message[at] % 8 {
+        0 => 8,
+        low => low as usize,
+    };
+    let after = at + 1 + width;
+    if after > end {
+        return Err(cut(at, inside));
+    }
+    let data = &message[at + 1..after];
+    if message[at] < 0xF0 {
+        return Ok((vec![Int(signed(data))], after));
+    }
+    if data[0] == 0 {
+        return Err((6, at as u64));
+    }
+    let bits = bits_of(data);
+    let marker = bits.iter().position(|&bit| bit).expect("a first 1");
+    Ok((vec![Bits(bits[marker + 1..].to_vec())], after))
+}
+
+/// An object with size-bytes.
+fn sized(
+    message: &[u8],
+    at: usize,
+    end: usize,
+    inside: usize,
+) -> Result<(Vec<Item>, usize), Refusal> {
+    let place = at as u64;
+    let byte = message[at];
+    if byte == 0xC4 && inside == 0 {
+        return Err((7, place));
+    }
+    if byte != 0xC1 && inside == 16 {
+        return Err((5, place));
+    }
+    let (start, after) = contents(message, at, end).ok_or(cut(at, inside))?;
+    let elements = |from| run(message, from, after, inside + 1);
+    let items = match byte {
+        0xC1 => vec![long_bits(message, at, start, after)?],
+        0xC4 => {
+            let (count, from) = count(message, start, after, (7, place))?;
+            repeated(elements(from)?, count)
+        }
+        0xC6 => {
+            let characters = message[start..after].iter().map(|byte| Char(byte % 128));
+            vec![Struc(characters.collect())]
+        }
+        0xC2 => vec![Struc(elements(start)?)],
+        0xC3 => vec![Edt(with_heads(elements(start)?, place)?)],
+        _ => vec![Struc(of_one_kind(elements(start)?, place)?)],
+    };
+    Ok((items, after))
+}
+
+/// Where the contents of the object at `at` begin and end.
+fn contents(message: &[u8], at: usize, end: usize) -> Option<(usize, usize)> {
+    let within = &message[..end];
+    let (start, size) = match *within.get(at + 1)? {
+        0x00 => (at + 2, 128),
+        first @ 0x01..=0x7F => (at + 2, first as usize),
+        first => {
+            let many = if first == 0x80 {
+                128
+            } else {
+                first as usize - 0x80
+            };
+            let field = within.get(at + 2..at + 2 + many)?;
+            let leading_zeros = field.iter().take_while(|&&byte| byte == 0).count();
+            let digits = &field[leading_zeros..];
+            if digits.len() > 3 {
+                return None;
+            }
+            let size = digits
+                .iter()
+                .fold(0, |size, &byte| size * 256 + byte as usize);
+            (at + 2 + many, size)
+        }
+    };
+    (start + size <= end).then_some((start, start + size))
+}
+
+/// A count or length from `at` on, and where it ends.
+fn count(
+    message: &[u8],
+    mut at: usize,
+    end: usize,
+    refusal: Refusal,
+) -> Result<(u64, usize), Refusal> {
+    while at < end && message[at] == 0xFF {
+        at += 1;
+    }
+    if at == end || !matches!(message[at], 0x80..=0xBF | 0xE0..=0xE7) {
+        return Err(refusal);
+    }
+    let (items, after) = object(message, at, end, 1)?;
+    match items[0] {
+        Int(value) if value >= 0 => Ok((value as u64, after)),
+        _ => Err(refusal),
+    }
+}
+
+fn long_bits(message: &[u8], at: usize, start: usize, end: usize) -> Result<Item, Refusal> {
+    let refusal = (6, at as u64);
+    let (length, from) = count(message, start, end, refusal)?;
+    let bits = bits_of(&message[from..end]);
+    if length.div_ceil(8) != (end - from) as u64 {
+        return Err(refusal);
+    }
+    Ok(Bits(bits[..length as usize].to_vec()))
+}
+
+/// The pattern so many times, or often enough that the rows are over their
+/// limit, and that there are two elements.
+fn repeated(pattern: Vec<Item>, count: u64) -> Vec<Item> {
+    let rows = rows(&pattern) as u64;
+    let enough = match rows {
+        0 => 0,
+        1..=16_384 => 2 + 16_384 / rows,
+        _ if pattern.len() == 1 => 2,
+        _ => 1,
+    };
+    vec![pattern; count.min(enough) as usize].concat()
+}
+
+fn of_one_kind(elements: Vec<Item>, place: u64) -> Result<Vec<Item>, Refusal> {
+    let kinds = |item: &Item| (kind(item), is_string(item));
+    match elements
+        .iter()
+        .all(|element| kinds(element) == kinds(&elements[0]))
+    {
+        true => Ok(elements),
+        false => Err((8, place)),
+    }
+}
+
+fn with_heads(elements: Vec<Item>, place: u64) -> Result<Vec<Item>, Refusal> {
+    match has_heads(&elements) {
+        true => Ok(elements),
+        false => Err((9, place)),
+    }
+}

@@ -1,0 +1,111 @@
+//! The line-oriented command.
+
+use second::command::answer;
+use std::io::Write;
+use std::process::{Command, Stdio};
+
+const ANSWERS: [(&str, &str); 14] = [
+    (
+        "read C203818283 20",
+        "number 0 place 0 words 16 stray 0 table 4 1 16 0 7 3 3 1 0 1 1 0 2 1 0 3",
+    ),
+    (
+        "read c203818283 15",
+        "number 11 place 0 words 16 stray 0 table",
+    ),
+    ("read C202E201 20", "number 3 place 2 words 0 stray 0 table"),
+    ("read - 4", "number 0 place 0 words 4 stray 0 table 0 0 4 0"),
+    (
+        "write 9 1 1 7 0 1 0 64",
+        "number 0 length 2 stray 0 output E140",
+    ),
+    (
+        "write 1 1 1 7 0 1 0 64",
+        "number 15 length 2 stray 0 output -",
+    ),
+    ("write 0", "number 12 length 0 stray 0 output -"),
+    ("length 1 1 7 0 1 0 64", "number 0 length 2"),
+    ("length", "number 12 length 0"),
+    (
+        "normalise E10A 7 1",
+        "number 0 place 0 words 7 length 1 stray 0 table 1 1 7 0 1 0 10 output 8A",
+    ),
+    (
+        "normalise E10A 7 0",
+        "number 15 place 0 words 7 length 1 stray 0 table 1 1 7 0 1 0 10 output -",
+    ),
+    (
+        "normalise C0 7 1",
+        "number 4 place 0 words 0 length 0 stray 0 table output -",
+    ),
+    ("list FE", r"text accepted 1 items 1 rows\n0 EMPTY\n"),
+    ("list C4", r"text refused 7 at 0\n"),
+];
+
+#[test]
+fn each_request_is_answered() {
+    for (request, expected) in ANSWERS {
+        assert_eq!(answer(request), expected, "{request}");
+    }
+}
+
+#[test]
+fn what_is_no_request_is_answered_with_help() {
+    let strange = [
+        "",
+        "  ",
+        "sing",
+        "read",
+        "read C2",
+        "read C 4",
+        "read C2 4 4",
+        "read é 4",
+        "read XX 4",
+        "read C2 -1",
+        "read C2 99999999999999999999",
+        "read C2 1048577",
+        "write",
+        "write x",
+        "write 4 18446744073709551616",
+        "length 1.5",
+        "normalise C2 4",
+        "list",
+        "list C2 C2",
+    ];
+    for request in strange {
+        assert!(answer(request).starts_with("error: "), "{request}");
+        assert!(!answer(request).contains('\n'), "{request}");
+    }
+}
+
+#[test]
+fn the_command_answers_line_by_line() {
+    let program = env!("CARGO_BIN_EXE_second");
+    let mut command = Command::new(program);
+    let piped = command.stdin(Stdio::piped()).stdout(Stdio::piped());
+    let mut child = piped.spawn().expect("the command");
+    let long = "FF".repeat(65_537);
+    let first = format!("list FE\nread {long} 4\n");
+    let requests = [first.as_bytes(), &[0xFF], b"\nread - 4"].concat();
+    let mut input = child.stdin.take().expect("its input");
+    input.write_all(&requests).expect("requests");
+    drop(input);
+    let output = child.wait_with_output().expect("its output");
+    let text = String::from_utf8(output.stdout).expect("text");
+    let lines: Vec<&str> = text.lines().collect();
+    assert_eq!(lines.len(), 4);
+    assert_eq!(lines[1], "number 1 place 0 words 0 stray 0 table");
+    assert!(lines[2].starts_with("error: "));
+    assert_eq!(lines[3], "number 0 place 0 words 4 stray 0 table 0 0 4 0");
+    assert!(output.status.success());
+}
+
+#[test]
+fn the_listing_ends_at_eight_thousand_words() {
+    let fits = [vec![0xFE; 2_664], vec![0xF1, 0x03]].concat();
+    let text = second::listing(&fits);
+    let expected = "accepted 2665 items 2665 rows\n".to_string();
+    assert_eq!(text, expected + &"0 EMPTY\n".repeat(2_664) + "0 BITS 1 1\n");
+    let over = [vec![0xFE; 2_664], vec![0xF1, 0x03, 0xFE]].concat();
+    assert_eq!(second::listing(&over), "refused 11 at 0\n");
+}

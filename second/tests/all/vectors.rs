@@ -1,0 +1,138 @@
+//! Every vector, run for real.
+
+use crate::notation::{blocks, Block};
+use crate::plain::{forms, messages, tables};
+use crate::{item_notation, lent};
+use second::{Normalising, Reading, Writing};
+use std::collections::BTreeSet;
+use std::path::Path;
+
+const AMPLE_WORDS: usize = 65_540;
+const AMPLE_BYTES: usize = 65_536;
+
+#[test]
+fn every_vector_holds() {
+    let folder = Path::new(env!("CARGO_MANIFEST_DIR")).join("../tests/vectors");
+    let mut numbers = BTreeSet::new();
+    let mut count = 0;
+    for entry in std::fs::read_dir(folder).expect("the folder of vectors") {
+        let path = entry.expect("a file").path();
+        if path.extension().is_some_and(|extension| extension == "txt") {
+            count += run_file(&path, &mut numbers);
+        }
+    }
+    println!("{count} vectors");
+    assert!(count > 500);
+    assert!(
+        numbers.iter().copied().eq(0..=15),
+        "numbers met: {numbers:?}"
+    );
+}
+
+fn run_file(path: &Path, numbers: &mut BTreeSet<u64>) -> usize {
+    let text = std::fs::read_to_string(path).expect("a vector file");
+    let blocks = blocks(&text);
+    for block in &blocks {
+        let name = format!("{}:{}", path.display(), block.line);
+        match block.value("write") {
+            Some(_) => run_writing(&name, block, numbers),
+            None => run_reading(&name, block, numbers),
+        }
+    }
+    blocks.len()
+}
+
+fn lent_of(block: &Block, key: &str, ample: usize) -> usize {
+    let lent = block
+        .value(key)
+        .map(|value| value.parse().expect("a number"));
+    lent.unwrap_or(ample)
+}
+
+fn run_reading(name: &str, block: &Block, numbers: &mut BTreeSet<u64>) {
+    let message = block.bytes("message").expect("a message");
+    let words_lent = lent_of(block, "lent", AMPLE_WORDS);
+    let expected = block.words("read").expect("what reading answers");
+    let reading = Reading {
+        number: expected[0],
+        place: expected[1],
+        words: expected[2],
+    };
+    let (answer, table) = lent::read(&message, words_lent);
+    assert_eq!(answer, reading, "{name}");
+    numbers.insert(answer.number);
+    if let Some(expected) = block.words("table") {
+        assert!(table == expected, "{name}: table");
+    }
+    if let Some(text) = block.value("list") {
+        let expected = text.replace(" / ", "\n") + "\n";
+        assert_eq!(second::listing(&message), expected, "{name}");
+    }
+    run_items(name, block, &message, &table);
+    run_normalising(name, block, &message, reading, numbers);
+}
+
+/// The items of a vector give its table and normal form by the plain reading.
+fn run_items(name: &str, block: &Block, message: &[u8], table: &[u64]) {
+    let Some(text) = block.value("items") else {
+        return;
+    };
+    let items = item_notation::items(text);
+    assert_eq!(tables::table(&items), table, "{name}: table of the items");
+    assert_eq!(messages::items(message), Ok(items.clone()), "{name}");
+    if let Some(normal) = block.bytes("normal") {
+        assert_eq!(
+            forms::normal_form(&items),
+            normal,
+            "{name}: normal form of the items"
+        );
+    }
+}
+
+fn run_normalising(
+    name: &str,
+    block: &Block,
+    message: &[u8],
+    reading: Reading,
+    numbers: &mut BTreeSet<u64>,
+) {
+    let normal = block.bytes("normal");
+    let (number, length) = match (block.words("normalise"), &normal) {
+        (Some(answer), _) => (answer[0], answer[1]),
+        (None, Some(normal)) => (0, normal.len() as u64),
+        (None, None) => return,
+    };
+    let words_lent = lent_of(block, "lent", AMPLE_WORDS);
+    let room = lent_of(block, "room", AMPLE_BYTES);
+    let expected = Normalising {
+        number,
+        place: reading.place,
+        words: reading.words,
+        length,
+    };
+    let (answer, table, output) = lent::normalise(message, words_lent, room);
+    assert_eq!(answer, expected, "{name}");
+    numbers.insert(answer.number);
+    assert!(table == lent::read(message, words_lent).1, "{name}: table");
+    assert!(output == normal.unwrap_or_default(), "{name}: normal form");
+}
+
+fn run_writing(name: &str, block: &Block, numbers: &mut BTreeSet<u64>) {
+    let table = block.words("table").expect("a table");
+    let expected = block.words("write").expect("what writing answers");
+    let room = lent_of(block, "room", AMPLE_BYTES);
+    let (number, length) = (expected[0], expected[1]);
+    let (answer, output) = lent::write(&table, room);
+    assert_eq!(answer, Writing { number, length }, "{name}");
+    numbers.insert(number);
+    assert!(
+        output == block.bytes("bytes").unwrap_or_default(),
+        "{name}: bytes"
+    );
+    let number = if number == 15 { 0 } else { number };
+    assert_eq!(
+        second::normal_length(&table),
+        Writing { number, length },
+        "{name}"
+    );
+}
