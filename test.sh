@@ -40,6 +40,15 @@ part 'layout of the proved crates' rt fmt --check
 part 'second program: layout' in_folder second cargo fmt --check
 part 'second program: lints' in_folder second cargo clippy --quiet --all-targets --offline --locked -- -D warnings
 part 'second program: tests' in_folder second cargo test --release --offline --locked
+part 'archive for C' rt staticlib message_c
+part 'comparison: layout' in_folder tests/compare cargo fmt --check
+part 'comparison: lints' in_folder tests/compare cargo clippy --quiet --all-targets --offline --locked -- -D warnings
+part 'comparison: tests' in_folder tests/compare cargo test --release --offline --locked
+part 'Rust crate: layout' in_folder bindings/rust cargo fmt --check
+part 'Rust crate: lints' in_folder bindings/rust cargo clippy --quiet --all-targets --offline --locked -- -D warnings
+part 'Rust crate: tests' in_folder bindings/rust cargo test --release --offline --locked
+part 'examples for C and Rust' bash tests/examples.sh
+part 'listings' bash tests/listings.sh
 
 printf 'all parts: %s seconds\n' "$SECONDS"
 printf '%s passed, %s failed\n' "$passed" "$failed"

@@ -17,4 +17,5 @@ pub mod NormalHeads
 pub mod NormalBytes
 pub mod RoundTrip
 pub mod Minimal
+pub mod Faults
 pub mod Examples

@@ -1,0 +1,99 @@
+//! Prints the figures of the measure sheets in a message, or why it is refused.
+//!
+//! ```text
+//! cargo run --release --offline --locked --example measure -- FILE
+//! ```
+//!
+//! Without a file it takes `examples/empty-chest.msg` of the repository. The
+//! exit status is 0 for a message that is read, 1 for one that is refused, and
+//! 2 for a file that cannot be opened.
+
+use msdtp::{read, rows, Row, Rows, TABLE_WORDS};
+use std::path::{Path, PathBuf};
+use std::process::ExitCode;
+
+/// The type of a measure sheet, by number and by name.
+const TYPE_NUMBER: i64 = 12;
+const TYPE_NAME: &str = "MEASURE";
+const UNITS: [&str; 2] = ["tenths of a centimetre", "eighths of an inch"];
+
+fn main() -> ExitCode {
+    let path = std::env::args_os().nth(1).map(PathBuf::from);
+    let path = path.unwrap_or_else(example);
+    match std::fs::read(&path) {
+        Ok(message) => print_message(&message),
+        Err(error) => {
+            eprintln!("{}: {error}", path.display());
+            ExitCode::from(2)
+        }
+    }
+}
+
+fn example() -> PathBuf {
+    Path::new(env!("CARGO_MANIFEST_DIR")).join("../../examples/empty-chest.msg")
+}
+
+fn print_message(message: &[u8]) -> ExitCode {
+    let mut table = vec![0; TABLE_WORDS];
+    match read(message, &mut table) {
+        Ok(read) => {
+            let items = rows(&table[..read.words]).items();
+            items.for_each(|(row, beneath)| print_item(row, beneath));
+            ExitCode::SUCCESS
+        }
+        Err(refused) => {
+            println!("{refused}");
+            ExitCode::FAILURE
+        }
+    }
+}
+
+/// Prints an outermost item: a measure sheet line by line, a string as a note,
+/// and of anything else only that it is neither.
+fn print_item(row: Row, beneath: Rows) {
+    match (row, text(beneath.clone())) {
+        (Row::Edt { .. }, _) => print_edt(beneath),
+        (Row::Struc { .. }, Some(note)) => println!("note {note:?}"),
+        _ => println!("no measure sheet: {row:?}"),
+    }
+}
+
+/// The characters of these rows, if they are nothing else.
+fn text(rows: Rows) -> Option<String> {
+    let character = |row| match row {
+        Row::Char(code) => Some(char::from(code)),
+        _ => None,
+    };
+    rows.map(character).collect()
+}
+
+/// Prints an EDT by its elements: type, version, order number, unit, chest,
+/// waist and sleeve, if it is a measure sheet.
+fn print_edt(beneath: Rows) {
+    let elements: Vec<(Row, Rows)> = beneath.items().collect();
+    let rows: Vec<Row> = elements.iter().map(|(row, _)| *row).collect();
+    let typed = elements.first().is_some_and(|(row, beneath)| match row {
+        Row::Int(number) => *number == TYPE_NUMBER,
+        _ => text(beneath.clone()).is_some_and(|name| name == TYPE_NAME),
+    });
+    match rows[..] {
+        [_, Row::Int(1), Row::Int(order), Row::Xtra(unit @ 0..=1), chest, waist, sleeve]
+            if typed =>
+        {
+            println!("order {order}, in {}", UNITS[usize::from(unit)]);
+            print_figure("chest", chest);
+            print_figure("waist", waist);
+            print_figure("sleeve", sleeve);
+        }
+        _ => println!("no measure sheet: an EDT of {} elements", rows.len()),
+    }
+}
+
+/// Prints a figure, or that there is none to cut by.
+fn print_figure(name: &str, figure: Row) {
+    match figure {
+        Row::Int(value) => println!("  {name} {value}"),
+        Row::Empty => println!("  {name} EMPTY: stop and ask"),
+        other => println!("  {name} is no figure: {other:?}"),
+    }
+}

@@ -1,0 +1,144 @@
+//! The four operations, with answers as results.
+
+use crate::library;
+use crate::refused::Refused;
+
+/// What an accepted reading answers.
+#[derive(Clone, Copy, Debug, PartialEq, Eq)]
+pub struct Read {
+    /// The table's words, from its first.
+    pub words: usize,
+}
+
+/// What an accepted normalising answers.
+#[derive(Clone, Copy, Debug, PartialEq, Eq)]
+pub struct Normalised {
+    /// The table's words, from its first.
+    pub words: usize,
+    /// The output's bytes, from its first.
+    pub length: usize,
+}
+
+/// Reads a message into a lent table.
+///
+/// The first `words` words of the table are then the table of the message's
+/// items, and the words after them are as they were. A refusal is one of the
+/// numbers 1 to 11 and leaves the whole table as it was.
+/// [`TABLE_WORDS`](crate::TABLE_WORDS) are always enough; with number 11 the
+/// refusal says how many are needed.
+///
+/// ```
+/// let mut table = [0; 16];
+/// let read = msdtp::read(&[0xC2, 0x03, 0x81, 0x82, 0x83], &mut table)?;
+/// assert_eq!(read.words, 16);
+///
+/// let refused = msdtp::read(&[0xC2, 0x02, 0xE2, 0x01], &mut table).unwrap_err();
+/// assert_eq!((refused.number, refused.place), (3, 2));
+/// # Ok::<(), msdtp::Refused>(())
+/// ```
+pub fn read(message: &[u8], table: &mut [u64]) -> Result<Read, Refused> {
+    let answer = library::read(message, table);
+    let words = answer.words as usize;
+    match answer.number {
+        0 => Ok(Read { words }),
+        number => Err(Refused {
+            number,
+            place: answer.place as usize,
+            needed: words,
+            words: 0,
+        }),
+    }
+}
+
+/// Writes the normal form of a table's items into a lent output, and answers
+/// its length.
+///
+/// The first bytes of the output are then the normal form, and the bytes after
+/// them are as they were. Words past the table's data are not looked at. A
+/// refusal is one of the numbers 12 to 15 and leaves the whole output as it
+/// was. [`OUTPUT_BYTES`](crate::OUTPUT_BYTES) are always enough; with number 15
+/// the refusal says how many are needed.
+///
+/// ```
+/// // One row, an INT of 10.
+/// let table = [1, 1, 7, 0, 1, 0, 10];
+/// let mut output = [0; 4];
+/// assert_eq!(msdtp::write(&table, &mut output)?, 1);
+/// assert_eq!(output, [0x8A, 0, 0, 0]);
+///
+/// let refused = msdtp::write(&table, &mut []).unwrap_err();
+/// assert_eq!((refused.number, refused.needed), (15, 1));
+/// # Ok::<(), msdtp::Refused>(())
+/// ```
+pub fn write(table: &[u64], output: &mut [u8]) -> Result<usize, Refused> {
+    written(library::write(table, output))
+}
+
+/// Tells the length of a table's normal form. It refuses with 12, 13 and 14 as
+/// writing does.
+///
+/// ```
+/// let table = [1, 1, 7, 0, 1, 0, 4096];
+/// assert_eq!(msdtp::normal_length(&table)?, 3);
+/// assert_eq!(msdtp::normal_length(&[]).unwrap_err().number, 12);
+/// # Ok::<(), msdtp::Refused>(())
+/// ```
+pub fn normal_length(table: &[u64]) -> Result<usize, Refused> {
+    written(library::normal_length(table))
+}
+
+/// What writing answers, as a result.
+fn written(answer: library::Writing) -> Result<usize, Refused> {
+    let length = answer.length as usize;
+    match answer.number {
+        0 => Ok(length),
+        number => Err(Refused {
+            number,
+            place: 0,
+            needed: length,
+            words: 0,
+        }),
+    }
+}
+
+/// Reads a message into a lent table, then writes its normal form into a lent
+/// output.
+///
+/// Two messages have the same normal form exactly when they say the same items
+/// in the same order. If reading refuses (1 to 11), table and output are as
+/// they were. If writing refuses (14 or 15), the table holds the reading, in as
+/// many words as the refusal tells, and the output is as it was.
+///
+/// ```
+/// use msdtp::{normalise, OUTPUT_BYTES, TABLE_WORDS};
+///
+/// let mut table = [0; TABLE_WORDS];
+/// let mut output = [0; OUTPUT_BYTES];
+/// let message = [0xC6, 0x05, 0xC8, 0x45, 0x4C, 0x4C, 0x4F];
+/// let normal = normalise(&message, &mut table, &mut output)?;
+/// assert_eq!(output[..normal.length], *b"\xC5\x05HELLO");
+///
+/// let refused = normalise(&message, &mut table, &mut output[..6]).unwrap_err();
+/// assert_eq!((refused.number, refused.needed), (15, 7));
+/// assert_eq!(refused.words, normal.words);
+/// # Ok::<(), msdtp::Refused>(())
+/// ```
+pub fn normalise(
+    message: &[u8],
+    table: &mut [u64],
+    output: &mut [u8],
+) -> Result<Normalised, Refused> {
+    let answer = library::normalise(message, table, output);
+    let (words, length) = (answer.words as usize, answer.length as usize);
+    let (needed, held) = match answer.number {
+        0 => return Ok(Normalised { words, length }),
+        1..=11 => (words, 0),
+        _ => (length, words),
+    };
+    Err(Refused {
+        number: answer.number,
+        place: answer.place as usize,
+        needed,
+        words: held,
+    })
+}

@@ -1,0 +1,172 @@
+//! Every number from 0 to 15, reached through the crate.
+
+use msdtp::{normal_length, normalise, read, rows, write};
+use msdtp::{Normalised, Read, Refused, Row, OUTPUT_BYTES, TABLE_WORDS};
+
+/// Contents of fewer than 128 bytes inside so many STRUCs.
+fn boxes(count: usize, contents: &[u8]) -> Vec<u8> {
+    let around = |inner: Vec<u8>, _| [vec![0xC2, inner.len() as u8], inner].concat();
+    (0..count).fold(contents.to_vec(), around)
+}
+
+/// A table of so many STRUCs, one inside the other.
+fn table_of_boxes(count: u64) -> Vec<u64> {
+    let rows = (0..count).rev();
+    let rows = rows.flat_map(|beneath| [7, beneath.min(1), beneath]);
+    [count, 1, 4 + 3 * count, 0]
+        .into_iter()
+        .chain(rows)
+        .collect()
+}
+
+/// A table of one BITS item with so many data words, all full.
+fn table_of_bits(words: u64) -> Vec<u64> {
+    let header_and_row = [1, 1, 7, words, 2, 64 * words, 0];
+    let data = vec![u64::MAX; words as usize];
+    [header_and_row.to_vec(), data].concat()
+}
+
+/// Refused by reading and by normalising alike, with everything untouched.
+fn refused_reading(message: &[u8], words: usize) -> Refused {
+    let mut table = vec![7; words];
+    let mut output = vec![7; 40];
+    let refused = read(message, &mut table).unwrap_err();
+    assert_eq!(normalise(message, &mut table, &mut output), Err(refused));
+    assert!(table.iter().all(|&word| word == 7), "{refused}");
+    assert!(output.iter().all(|&byte| byte == 7), "{refused}");
+    refused
+}
+
+/// Refused by writing, with the output untouched.
+fn refused_writing(table: &[u64], bytes: usize) -> Refused {
+    let mut output = vec![7; bytes];
+    let refused = write(table, &mut output).unwrap_err();
+    assert!(output.iter().all(|&byte| byte == 7), "{refused}");
+    refused
+}
+
+#[test]
+fn reading_gives_1_to_11() {
+    let cases: [(Vec<u8>, u64, usize); 10] = [
+        (vec![0xFF; 65_537], 1, 0),
+        (vec![0x80, 0xE1], 2, 1),
+        (vec![0xC2, 0x01, 0xE1], 3, 2),
+        (vec![0xC0], 4, 0),
+        (boxes(16, &[0xC2]), 5, 32),
+        (vec![0xF1, 0x00], 6, 0),
+        (vec![0xC4], 7, 0),
+        (vec![0xC5, 0x02, 0x81, 0x41], 8, 0),
+        (vec![0xC3, 0x81, 0x00], 9, 0),
+        (vec![0xC2, 0x06, 0xC4, 0x04, 0xE2, 0x40, 0x00, 0x80], 10, 0),
+    ];
+    for (message, number, place) in cases {
+        let refused = refused_reading(&message, TABLE_WORDS);
+        assert_eq!((refused.number, refused.place), (number, place));
+        assert_eq!((refused.needed, refused.words), (0, 0));
+    }
+    let refused = refused_reading(&[0x80], 6);
+    assert_eq!((refused.number, refused.place), (11, 0));
+    assert_eq!((refused.needed, refused.words), (7, 0));
+}
+
+#[test]
+fn writing_gives_12_to_15() {
+    let one_number = [1, 1, 7, 0, 1, 0, 0];
+    let cases = [
+        (vec![], OUTPUT_BYTES, 12, 0),
+        (table_of_boxes(17), OUTPUT_BYTES, 13, 0),
+        (table_of_bits(8_192), OUTPUT_BYTES, 14, 0),
+        (one_number.to_vec(), 0, 15, 1),
+    ];
+    for (table, bytes, number, needed) in cases {
+        let refused = refused_writing(&table, bytes);
+        assert_eq!((refused.number, refused.needed), (number, needed));
+        assert_eq!((refused.place, refused.words), (0, 0));
+        let length = normal_length(&table);
+        match number {
+            15 => assert_eq!(length, Ok(needed)),
+            _ => assert_eq!(length, Err(refused)),
+        }
+    }
+}
+
+#[test]
+fn normalising_gives_14_and_15_and_the_reading() {
+    let mut table = vec![0; TABLE_WORDS];
+    let mut output = vec![7; OUTPUT_BYTES];
+    let long = [0xE1, 0x40].repeat(16_384);
+    let words = read(&long, &mut table).expect("many numbers").words;
+    let refused = normalise(&long, &mut table, &mut output[..9]).unwrap_err();
+    assert_eq!((refused.number, refused.needed), (15, 32_768));
+    assert_eq!((refused.place, refused.words), (0, words));
+    assert_eq!(rows(&table[..words]).count(), 16_384);
+
+    // 9,000 times -2^63, in a repeat.
+    let least = [0xE0, 0x80, 0, 0, 0, 0, 0, 0, 0];
+    let repeat = [&[0xC2, 0x0E, 0xC4, 0x0C, 0xE2, 0x23, 0x28], &least[..]].concat();
+    let refused = normalise(&repeat, &mut table, &mut output).unwrap_err();
+    assert_eq!((refused.number, refused.needed), (14, 0));
+    assert_eq!(refused.words, 4 + 3 * 9_001);
+    assert!(output.iter().all(|&byte| byte == 7));
+}
+
+#[test]
+fn all_give_0() {
+    let message = boxes(16, &[0xE1, 0x0A]);
+    let normal = boxes(16, &[0x8A]);
+    let (mut table, mut output) = (vec![7; TABLE_WORDS], vec![7; 40]);
+    let words = 4 + 3 * 17;
+    assert_eq!(read(&message, &mut table), Ok(Read { words }));
+    assert!(table[words..].iter().all(|&word| word == 7));
+    assert_eq!(normal_length(&table), Ok(normal.len()));
+    assert_eq!(write(&table, &mut output), Ok(normal.len()));
+    assert_eq!(output[..normal.len()], normal);
+    assert!(output[normal.len()..].iter().all(|&byte| byte == 7));
+    let length = normal.len();
+    assert_eq!(
+        normalise(&message, &mut table, &mut output),
+        Ok(Normalised { words, length })
+    );
+    assert_eq!(rows(&table).last(), Some(Row::Int(10)));
+}
+
+#[test]
+fn empty_slices() {
+    let refused = read(&[], &mut []).unwrap_err();
+    assert_eq!((refused.number, refused.needed), (11, 4));
+    let refused = normalise(&[], &mut [], &mut []).unwrap_err();
+    assert_eq!((refused.number, refused.needed), (11, 4));
+    assert_eq!(write(&[], &mut []).unwrap_err().number, 12);
+    assert_eq!(normal_length(&[]).unwrap_err().number, 12);
+    assert_eq!(rows(&[]).next(), None);
+
+    let mut table = [7; 4];
+    let nothing = Normalised {
+        words: 4,
+        length: 0,
+    };
+    assert_eq!(normalise(&[], &mut table, &mut []), Ok(nothing));
+    assert_eq!(table, [0, 0, 4, 0]);
+    assert_eq!(write(&table, &mut []), Ok(0));
+}
+
+#[test]
+fn refusals_are_errors_in_words() {
+    let told = |message: &[u8]| -> Result<Read, Box<dyn std::error::Error>> {
+        Ok(read(message, &mut [])?)
+    };
+    let told = |message: &[u8]| told(message).unwrap_err().to_string();
+    assert_eq!(
+        told(&[0xFE, 0xC7]),
+        "refused 4 at 1: a byte that means nothing in this format"
+    );
+    assert_eq!(
+        told(&[]),
+        "refused 11 at 0: the table that was lent is too short; words needed: 4"
+    );
+    let table = [1, 1, 7, 0, 1, 0, 64];
+    assert_eq!(
+        refused_writing(&table, 1).to_string(),
+        "refused 15: the output that was lent is too short; bytes needed: 2"
+    );
+}

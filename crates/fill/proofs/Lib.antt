@@ -1,0 +1,12 @@
+pub mod Over
+pub mod CopyLaws
+pub mod AgainLaws
+pub mod WithinLaws
+pub mod Turns
+pub mod RowLaws
+pub mod PlainLaws
+pub mod ContainerLaws
+pub mod BitWords
+pub mod RowWalk
+pub mod WordWalk
+pub mod WholeLaws

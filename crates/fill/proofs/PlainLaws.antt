@@ -1,0 +1,236 @@
+-- An object that is no container: its rows and its data words, by its head. Assumes nothing.
+use Prim.Native.Nat.{ℕ, suc, _+_, _-_, _*_, _/_, _%_, _≤_, _<_}
+use native.Mathlib.Omega.{arith}
+use native.Mathlib.Numerals.{add-one}
+use mathlib.Core.Path.{_≡_, refl, sym, ap, ap₂, _∙_, subst}
+use mathlib.Core.Logic.{_≢_}
+use mathlib.Core.Bool.{Bool}
+use mathlib.Core.List.{List, [], _∷_, _++_, append-nil}
+use lib.ListN.{length, take, drop, getD, set, length-take, length-drop}
+use lib.Seq.{take-suc, length-take-le}
+use types.Run.{OneOf, miss}
+use denote.Enum.Declared.{tagOf}
+use Rattle.format.specs.Bits.{spread, packed, bytesFor, wordsFor}
+use Rattle.format.specs.Items.{Leaf, bits, struc, Items, end, group, one, leafKind}
+use Rattle.format.specs.Tables.{count, rows, leafWords, dataWords, leafA, leafB, rowKind, rowWords}
+use Rattle.format.specs.Answers.{over}
+use Rattle.format.specs.Objects as O
+use Rattle.format.specs.Messages.{Outcome, bad, got, object, reads}
+use Rattle.format.specs.declared.Class.the-variants as C
+use Rattle.format.proofs.Choices.{split, ifLt-yes, ifLt-no}
+use Rattle.format.proofs.Parts.{middle-part}
+use Rattle.format.proofs.Steps.{objectAt}
+use Rattle.format.proofs.BitLaws.{packed-length, spread-length}
+use Rattle.format.proofs.TypeBytes.{char-class, small-class}
+use Rattle.wire.proofs.head.Head.{the-type}
+use Rattle.wire.specs.declared.head.Head.{Head}
+use Rattle.wire.specs.declared.head.Head.the-variants.{Stop, Gap, Row, Short, Long, Text, Open}
+use Rattle.wire.specs.Heads.{HeadIs, IsRow, IsShort, bitsFrom}
+use Rattle.wire.proofs.HeadLaws.{by-class, char-row, sinteger-row, padding-gap}
+use Rattle.fill.specs.Plain.{Apt, plainKind, charRows, plainRows, plainWords, placedAs, plainPlaced, plainStored}
+use Rattle.fill.proofs.Over.{grown, row-before, set-row}
+
+-- ---- a string's characters
+pub char-rows : (base : ℕ) (s : List ℕ) → rowWords base (O.characters s) ≡ charRows s
+unfolding O.characters rowWords charRows leafKind leafA leafB leafWords
+char-rows base [] = refl
+char-rows base (b ∷ s) = let e : base + 0 ≡ base = omega arith in ap (λ r. 3 ∷ 0 ∷ b % 128 ∷ r) (rw e (char-rows base s))
+
+chars-rows : (s : List ℕ) → rows (O.characters s) ≡ length s
+unfolding O.characters rows
+chars-rows [] = refl
+chars-rows (b ∷ s) = ap suc (chars-rows s)
+
+chars-count : (s : List ℕ) → count (O.characters s) ≡ length s
+unfolding O.characters count
+chars-count [] = refl
+chars-count (b ∷ s) = ap suc (chars-count s)
+
+chars-words : (s : List ℕ) → dataWords (O.characters s) ≡ []
+unfolding O.characters dataWords leafWords
+chars-words [] = refl
+chars-words (b ∷ s) = chars-words s
+
+pub chars-length : (s : List ℕ) → length (charRows s) ≡ 3 * length s
+unfolding charRows
+chars-length [] = refl
+chars-length (b ∷ s) = omega (arith, chars-length s)
+
+chars-append : (s t : List ℕ) → charRows (s ++ t) ≡ charRows s ++ charRows t
+unfolding charRows
+chars-append [] t = refl
+chars-append (b ∷ s) t = ap (λ r. 3 ∷ 0 ∷ b % 128 ∷ r) (chars-append s t)
+
+-- one character more
+pub chars-more : (s : List ℕ) (i : ℕ) → i < length s → charRows (take (i + 1) s) ≡ charRows (take i s) ++ (3 ∷ 0 ∷ getD s i 0 % 128 ∷ [])
+chars-more s i h =
+    ap charRows (ap (λ n. take n s) (add-one i) ∙ take-suc s i 0 h) ∙ chars-append (take i s) (getD s i 0 ∷ []) ∙ (unfold charRows in refl)
+
+-- one turn of the loop over characters
+pub char-turn : (s t₀ t : List ℕ) (i : ℕ) → i < length s → 3 * length s ≤ length t₀ → length t ≡ length t₀ → t ≡ over (charRows (take i s)) t₀
+    → set (set (set t (3 * i) 3) (3 * i + 1) 0) (3 * i + 2) (getD s i 0 % 128) ≡ over (charRows (take (i + 1) s)) t₀
+char-turn s t₀ t i h room l e =
+    let n : 3 * i ≡ length (charRows (take i s)) = omega (arith, chars-length (take i s), length-take-le i s (omega arith)) in
+    set-row (3 * i) t 3 0 (getD s i 0 % 128) (omega arith)
+    ∙ grown (charRows (take i s)) (3 ∷ 0 ∷ getD s i 0 % 128 ∷ []) t₀ t (3 * i) e n
+    ∙ ap (λ r. over r t₀) (sym (chars-more s i h))
+
+-- a string's row, and its characters in the part behind it
+pub text-rows : (s : List ℕ) (a n : ℕ) (t ys : List ℕ) → 3 ≤ length t → ys ≡ over (charRows (take (a + n - a) (drop a s))) (take (length t - 3) (drop 3 t))
+    → over (7 ∷ n ∷ n ∷ []) (take 3 t ++ (ys ++ drop (length t - 3) (drop 3 t))) ≡ over (7 ∷ n ∷ n ∷ charRows (take n (drop a s))) t
+text-rows s a n t ys h e =
+    row-before 7 n n (charRows (take (a + n - a) (drop a s))) t ys h e ∙ ap (λ c. over (7 ∷ n ∷ n ∷ charRows c) t) (middle-part s a n)
+
+pub text-room : (s : List ℕ) (a n len : ℕ) → a + n ≤ length s → length (7 ∷ n ∷ n ∷ charRows (take n (drop a s))) ≤ len → 3 + 3 * n ≤ len
+text-room s a n len h g =
+    let l : length (take n (drop a s)) ≡ n = simp (length-take, length-drop) (omega arith) in
+    omega (arith, chars-length (take n (drop a s)))
+
+-- ---- what a head has shown: the items xs, and u bytes past the type-byte
+pub record Shown (s : List ℕ) (h : Head) (xs : Items) (u : ℕ) : Type 0 where
+  pub rows-are : (base : ℕ) → rowWords base xs ≡ plainRows s base h
+  pub words-are : dataWords xs ≡ plainWords s h
+  pub placed-is : plainPlaced h ≡ placedAs (rows xs) (count xs) (length (dataWords xs)) u
+
+shown-gap : (s : List ℕ) → Shown s Gap end 0
+unfolding rowWords plainRows dataWords plainWords plainPlaced rows count
+shown-gap s = record { rows-are = λ base. refl; words-are = refl; placed-is = refl }
+
+shown-row : (s : List ℕ) (l : Leaf) (k v u : ℕ) → IsRow l k v → Shown s (Row k v u) (one l) u
+unfolding rowWords plainRows dataWords plainWords plainPlaced rows count
+shown-row s l k v u r =
+    let d : leafWords l ++ [] ≡ [] = append-nil (leafWords l) ∙ r .none in
+    record {
+      rows-are = λ base. rw (r .kind, r .first, r .last base) refl;
+      words-are = d;
+      placed-is = ap (λ n. placedAs 1 1 n u) (sym (ap length d));
+    }
+
+-- a BITS, whose words are w
+shown-bits : (s : List ℕ) (h : Head) (bs : List Bool) (n u : ℕ) → length bs ≡ n → plainWords s h ≡ packed 64 (wordsFor n) bs
+    → ((base : ℕ) → plainRows s base h ≡ 2 ∷ n ∷ base ∷ []) → plainPlaced h ≡ placedAs 1 1 (wordsFor n) u → Shown s h (one (bits bs)) u
+unfolding rowWords dataWords rows count leafKind leafA leafB leafWords
+shown-bits s h bs n u e w r p =
+    let d : packed 64 (wordsFor (length bs)) bs ++ [] ≡ packed 64 (wordsFor n) bs = append-nil (packed 64 (wordsFor (length bs)) bs) ∙ ap (λ m. packed 64 (wordsFor m) bs) e in
+    record {
+      rows-are = λ base. ap (λ m. 2 ∷ m ∷ base ∷ []) e ∙ sym (r base);
+      words-are = d ∙ sym w;
+      placed-is = p ∙ ap (λ m. placedAs 1 1 m u) (sym (ap length d ∙ packed-length 64 (wordsFor n) bs));
+    }
+
+short-words : (bs : List Bool) (n w : ℕ) → IsShort bs n w → take (wordsFor n) (w ∷ []) ≡ packed 64 (wordsFor n) bs
+unfolding wordsFor packed
+short-words bs n w r =
+    let f = r .few in
+    split 0 n
+    (λ p. let e : (n + 63) / 64 ≡ 1 = omega arith in rw e (ap (λ v. v ∷ []) (sym (r .word))))
+    (λ z. let e : (n + 63) / 64 ≡ 0 = omega arith in rw e refl)
+
+pub long-length : (s : List ℕ) (a n : ℕ) → a + bytesFor n ≤ length s → length (bitsFrom s a n) ≡ n
+unfolding bytesFor
+long-length s a n h =
+    let l : length (take ((n + 7) / 8) (drop a s)) ≡ (n + 7) / 8 = simp (length-take, length-drop) (omega arith) in
+    length-take-le n _ (omega (arith, spread-length 8 (take ((n + 7) / 8) (drop a s))))
+
+shown-text : (s : List ℕ) (a n : ℕ) → a + n ≤ length s → Shown s (Text a n) (group struc (O.characters (O.contents s a n)) end) (a + n)
+unfolding O.contents rowWords plainRows dataWords plainWords plainPlaced rows count rowKind
+shown-text s a n h =
+    let c = take n (drop a s) in
+    let l : length c ≡ n = simp (length-take, length-drop) (omega arith) in
+    let d : dataWords (O.characters c) ++ [] ≡ [] = append-nil (dataWords (O.characters c)) ∙ chars-words c in
+    let r : n + 1 ≡ suc (rows (O.characters c) + 0) = omega (arith, chars-rows c) in
+    record {
+      rows-are = λ base. rw (append-nil, chars-count c, chars-rows c, l, char-rows base c) refl;
+      words-are = d;
+      placed-is = ap₂ (λ m k. placedAs m 1 k (a + n)) r (sym (ap length d));
+    }
+
+-- ---- by the code's head
+-- the places in the enum of all but the container
+abbrev pub plain-tags : List ℕ
+plain-tags = 0 ∷ 1 ∷ 2 ∷ 3 ∷ 4 ∷ 5 ∷ []
+
+pub head-apt : (s : List ℕ) (h : Head) (m : O.Head) → HeadIs s h m → Apt s h
+unfolding Apt
+head-apt s (Stop n p) m e = tt
+head-apt s Gap m e = tt
+head-apt s (Row k v u) m e = tt
+head-apt s (Short n w u) m e = e .2 .few
+head-apt s (Long a n u) m e = (e .1, e .2)
+head-apt s (Text a n) m e = e .1
+head-apt s (Open w a n) m e = tt
+
+module _ (s : List ℕ) (inside : ℕ → ℕ → Outcome) (xs : Items) (u : ℕ) where
+  given : (h : Head) (m : O.Head) (ys : Items) (v : ℕ) → m ≡ O.gives ys v → object inside m ≡ got xs u → Shown s h ys v → Shown s h xs u
+  unfolding object
+  given h m ys v e f r =
+      let g : got ys v ≡ got xs u = sym (ap (object inside) e) ∙ f in
+      let p : ys ≡ xs = cc in
+      let q : v ≡ u = cc in
+      subst (λ z. Shown s h z u) p (subst (Shown s h ys) q r)
+
+  plain-shown : (h : Head) (m : O.Head) → OneOf plain-tags (tagOf the-type h) → HeadIs s h m → object inside m ≡ got xs u → Shown s h xs u
+  unfolding object plainWords plainRows plainPlaced
+  plain-shown (Stop n p) m t e f =
+      let g : bad (record { number = n; place = p }) ≡ got xs u = sym (ap (object inside) e) ∙ f in
+      let z : _≡_ {A = ℕ} 0 1 = cc in
+      absurd (omega arith)
+  plain-shown Gap m t e f = given Gap m end 0 e f (shown-gap s)
+  plain-shown (Row k v w) m t e f = given (Row k v w) m (one (e .0)) w (e .1) f (shown-row s (e .0) k v w (e .2))
+  plain-shown (Short n w v) m t e f =
+      given (Short n w v) m (one (bits (e .0))) v (e .1) f
+      (shown-bits s (Short n w v) (e .0) n v (e .2 .many) (short-words (e .0) n w (e .2)) (λ base. refl) refl)
+  plain-shown (Long a n v) m t e f =
+      given (Long a n v) m (one (bits (bitsFrom s a n))) v (e .0) f
+      (let b = e .1 in let c = e .2 in shown-bits s (Long a n v) (bitsFrom s a n) n v (long-length s a n (omega arith)) refl (λ base. refl) refl)
+  plain-shown (Text a n) m t e f = given (Text a n) m (group struc (O.characters (O.contents s a n)) end) (a + n) (e .0) f (shown-text s a n (e .1))
+  plain-shown (Open w a n) m t e f = absurd (miss plain-tags 6 tt t)
+
+pub object-shown : (d b : ℕ) (s : List ℕ) (xs : Items) (u : ℕ) → objectAt d b s ≡ got xs u → (h : Head) → OneOf plain-tags (tagOf the-type h) → HeadIs s h (O.headOf d b s)
+    → Shown s h xs u
+unfolding objectAt
+object-shown d b s xs u f h t e = plain-shown s (λ i n. reads (suc d) (O.contents s i n)) xs u h (O.headOf d b s) t e f
+
+-- a head that writes nothing, by its place in the enum
+pub idle : (s : List ℕ) (h : Head) → OneOf (0 ∷ 1 ∷ 6 ∷ []) (tagOf the-type h)
+    → (plainPlaced h ≡ placedAs 0 0 0 0) × ((base : ℕ) → plainRows s base h ≡ []) × (plainWords s h ≡ [])
+unfolding plainPlaced plainRows plainWords
+idle s (Stop n p) t = (refl, λ base. refl, refl)
+idle s Gap t = (refl, λ base. refl, refl)
+idle s (Row k v u) t = absurd (miss (0 ∷ 1 ∷ 6 ∷ []) 2 tt t)
+idle s (Short n w u) t = absurd (miss (0 ∷ 1 ∷ 6 ∷ []) 3 tt t)
+idle s (Long a n u) t = absurd (miss (0 ∷ 1 ∷ 6 ∷ []) 4 tt t)
+idle s (Text a n) t = absurd (miss (0 ∷ 1 ∷ 6 ∷ []) 5 tt t)
+idle s (Open w a n) t = (refl, λ base. refl, refl)
+
+-- ---- the data words of a short BITS, none or one
+pub short-none : (s : List ℕ) (n w u : ℕ) → n ≡ 0 → (plainStored (Short n w u) ≡ record { words = 0; past = u }) × (plainWords s (Short n w u) ≡ [])
+unfolding plainStored plainPlaced plainWords wordsFor
+short-none s n w u e = rw e (refl, refl)
+
+pub short-one : (s : List ℕ) (n w u : ℕ) → n ≢ 0 → n ≤ 63 → (plainStored (Short n w u) ≡ record { words = 1; past = u }) × (plainWords s (Short n w u) ≡ w ∷ [])
+unfolding plainStored plainPlaced plainWords wordsFor
+short-one s n w u z h = let e : (n + 63) / 64 ≡ 1 = omega arith in rw e (refl, refl)
+
+-- of a long one, as the code lends its bytes
+pub long-words : (s : List ℕ) (a n u : ℕ) (t : List ℕ) → a + bytesFor n ≡ u
+    → over (packed 64 (wordsFor n) (take n (spread 8 (take (u - a) (drop a s))))) t ≡ over (plainWords s (Long a n u)) t
+unfolding plainWords
+long-words s a n u t e =
+    let d : u - a ≡ bytesFor n = omega arith in
+    ap (λ m. over (packed 64 (wordsFor n) (take n (spread 8 (take m (drop a s))))) t) d
+
+-- ---- one-byte objects
+pub plain-head : (d b : ℕ) (s : List ℕ) → b < 0xc0 → HeadIs s (Row (plainKind b) (b % 128) 0) (O.headOf d b s)
+unfolding plainKind
+plain-head d b s h =
+    split b 0x80
+    (λ l. let e : b % 128 ≡ b = omega arith in rw (ifLt-yes b 0x80, e) (by-class d b s (Row 3 b 0) C.Char7 (sym (char-class b l)) (char-row d b s)))
+    (λ g.
+    let e : b % 128 ≡ b % 64 = omega arith in
+    let n : 0x80 + (b - 0x80) ≡ b = omega arith in
+    let c = rw n at (small-class (b - 0x80) (omega arith)) in
+    rw (ifLt-no b 0x80, e) (by-class d b s (Row 1 (b % 64) 0) C.Sinteger (sym c) (sinteger-row d b s (g, h))))
+
+pub gap-head : (d b : ℕ) (s : List ℕ) → b ≡ 0xff → HeadIs s Gap (O.headOf d b s)
+gap-head d b s e = rw e (by-class d 0xff s Gap C.Padding (unfold Rattle.format.specs.Classes.classOf in refl) (padding-gap d 0xff s))

@@ -1,0 +1,95 @@
+-- A run, one object further on: what the two walks share. Assumes nothing.
+use Prim.Native.Nat.{ℕ, suc, _+_, _-_, _≤_, _<_, zero-le}
+use native.Mathlib.Omega.{arith}
+use native.Mathlib.Numerals.{add-one}
+use mathlib.Core.Path.{_≡_, refl, sym, ap, _∙_, fun-ext}
+use mathlib.Core.List.{List}
+use lib.ListN.{length, take, drop, getD, length-drop, drop-of-length-le}
+use lib.Seq.{drop-cons, drop-drop}
+use Rattle.format.specs.Refusals.{further}
+use Rattle.format.specs.Items.{Items, end, join}
+use Rattle.format.specs.Messages.{Outcome, refused, says, Object, bad, got, onto, next, reads}
+use Rattle.format.proofs.Counts.{join-end, join-assoc}
+use Rattle.format.proofs.Parts.{rest-part}
+use Rattle.format.proofs.Steps.{reads-nil, reads-cons, objectAt}
+use Rattle.fill.proofs.WithinLaws.{got-within}
+
+onto-none : (o : Outcome) → o ≡ onto end 0 o
+unfolding onto join further
+onto-none (refused f) = ap refused (ap (λ p. record { number = f .number; place = p }) (omega arith))
+onto-none (says xs) = refl
+
+onto-onto : (xs ys : Items) (i n : ℕ) (o : Outcome) → onto xs i (onto ys n o) ≡ onto (join xs ys) (i + n) o
+unfolding onto further
+onto-onto xs ys i n (refused f) = ap refused (ap (λ p. record { number = f .number; place = p }) (omega arith))
+onto-onto xs ys i n (says zs) = ap says (sym (join-assoc xs ys zs))
+
+onto-said : (xs : Items) (i : ℕ) (o : Outcome) (all : Items) → onto xs i o ≡ says all → (zs : Items) × (all ≡ join xs zs)
+unfolding onto
+onto-said xs i (refused f) all e = let z : _≡_ {A = ℕ} 0 1 = cc in absurd (omega arith)
+onto-said xs i (says zs) all e = (zs, cc)
+
+next-said : (xs : Items) (i : ℕ) (x : Object) (r : ℕ → Outcome) (all : Items) → onto xs i (next x r) ≡ says all → (ys : Items) × (u : ℕ) × (x ≡ got ys u)
+unfolding next onto
+next-said xs i (bad f) r all e = let z : _≡_ {A = ℕ} 0 1 = cc in absurd (omega arith)
+next-said xs i (got ys u) r all e = (ys, u, refl)
+
+-- xs stand before i in a run that says `all`
+pub record Passed (d : ℕ) (s : List ℕ) (all xs : Items) (i : ℕ) : Type 0 where
+  pub said : reads d s ≡ says all
+  pub so-far : reads d s ≡ onto xs i (reads d (drop i s))
+  pub at : i ≤ length s
+
+pub passed-none : (d : ℕ) (s : List ℕ) (all : Items) → reads d s ≡ says all → Passed d s all end 0
+passed-none d s all e = record { said = e; so-far = onto-none (reads d s); at = zero-le }
+
+pub passed-all : (d : ℕ) (s : List ℕ) (all xs : Items) (i : ℕ) → length s ≤ i → Passed d s all xs i → reads d s ≡ says xs
+unfolding onto
+passed-all d s all xs i h p = p .so-far ∙ rw (drop-of-length-le s h) (rw (reads-nil d) (ap says (join-end xs)))
+
+-- the object at i, whose type-byte is b: ys, and zs behind them
+pub record Ahead (d : ℕ) (s : List ℕ) (all xs : Items) (i b : ℕ) : Type 0 where
+  pub ys : Items
+  pub zs : Items
+  pub past : ℕ
+  pub here : objectAt d b (take (length s - (i + 1)) (drop (i + 1) s)) ≡ got ys past
+  pub rest : all ≡ join (join xs ys) zs
+  pub further : Passed d s all (join xs ys) (i + 1 + past)
+
+module _ (d : ℕ) (s : List ℕ) (all xs : Items) (i b : ℕ) (p : Passed d s all xs i) (h : i < length s) (e : b ≡ getD s i 0) where
+  turn : reads d (drop i s) ≡ next (objectAt d b (drop (i + 1) s)) (λ u. reads d (drop (i + 1 + u) s))
+  turn =
+      rw (drop-cons s i 0, add-one i, e)
+      (reads-cons d (getD s i 0) (drop (suc i) s)
+      ∙ ap (next (objectAt d (getD s i 0) (drop (suc i) s))) (fun-ext (λ u. ap (reads d) (drop-drop u (suc i) s))))
+
+  -- the run, with the object at i apart
+  apart : reads d s ≡ onto xs i (next (objectAt d b (drop (i + 1) s)) (λ u. reads d (drop (i + 1 + u) s)))
+  apart = p .so-far ∙ ap (onto xs i) turn
+
+  given : (ys : Items) × (u : ℕ) × (objectAt d b (drop (i + 1) s) ≡ got ys u)
+  given = next-said xs i (objectAt d b (drop (i + 1) s)) (λ u. reads d (drop (i + 1 + u) s)) all (sym apart ∙ p .said)
+
+  beyond : reads d s ≡ onto (join xs (given .0)) (i + 1 + given .1) (reads d (drop (i + 1 + given .1) s))
+  unfolding next
+  beyond =
+      let a : i + (1 + given .1) ≡ i + 1 + given .1 = omega arith in
+      apart ∙ ap (λ x. onto xs i (next x (λ v. reads d (drop (i + 1 + v) s)))) (given .2)
+      ∙ onto-onto xs (given .0) i (1 + given .1) (reads d (drop (i + 1 + given .1) s))
+      ∙ ap (λ n. onto (join xs (given .0)) n (reads d (drop (i + 1 + given .1) s))) a
+
+  pub ahead : Ahead d s all xs i b
+  ahead =
+      let z = onto-said (join xs (given .0)) (i + 1 + given .1) (reads d (drop (i + 1 + given .1) s)) all (sym beyond ∙ p .said) in
+      record {
+        ys = given .0;
+        zs = z .0;
+        past = given .1;
+        here = rw (rest-part s (i + 1)) (given .2);
+        rest = z .1;
+        further = record {
+          said = p .said;
+          so-far = beyond;
+          at = omega (arith, got-within d b (drop (i + 1) s) (given .0) (given .1) (given .2), length-drop (i + 1) s);
+        };
+      }

@@ -1,0 +1,5 @@
+pub mod Copies
+pub mod Plain
+pub mod Containers
+pub mod Walks
+pub mod Whole

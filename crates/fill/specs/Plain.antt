@@ -1,0 +1,72 @@
+-- What an object that is no container writes, by its head.
+use Prim.Native.Nat.{ℕ, _+_, _%_, _≤_}
+use mathlib.Core.Path.{_≡_}
+use mathlib.Core.List.{List, [], _∷_}
+use lib.ListN.{length, take, drop}
+use Rattle.format.specs.Choice.{ifLt}
+use Rattle.format.specs.Bits.{packed, bytesFor, wordsFor}
+use Rattle.wire.specs.declared.head.Head.{Head}
+use Rattle.wire.specs.declared.head.Head.the-variants.{Stop, Gap, Row, Short, Long, Text, Open}
+use Rattle.wire.specs.Heads.{bitsFrom}
+use Rattle.fill.specs.declared.plain.Placed.{Placed}
+use Rattle.fill.specs.declared.plain.Stored.{Stored}
+
+-- a bit string or a text lies within the bytes s
+unfoldable pub Apt : List ℕ → Head → Type 0
+unfolding bytesFor
+Apt s (Stop n p) = Unit {0}
+Apt s Gap = Unit {0}
+Apt s (Row k v u) = Unit {0}
+Apt s (Short n w u) = n ≤ 63
+Apt s (Long a n u) = (a + bytesFor n ≡ u) × (u ≤ length s)
+Apt s (Text a n) = a + n ≤ length s
+Apt s (Open w a n) = Unit {0}
+
+-- the kind of a one-byte item
+unfoldable pub plainKind : ℕ → ℕ
+unfolding ifLt
+plainKind b = ifLt b 0x80 3 1
+
+-- a CHAR row for each byte of a string
+unfoldable pub charRows : List ℕ → List ℕ
+charRows [] = []
+charRows (b ∷ s) = 3 ∷ 0 ∷ b % 128 ∷ charRows s
+
+-- the rows of an object, where `base` data words come before
+unfoldable pub plainRows : List ℕ → ℕ → Head → List ℕ
+unfolding charRows
+plainRows s base (Stop n p) = []
+plainRows s base Gap = []
+plainRows s base (Row k v u) = k ∷ 0 ∷ v ∷ []
+plainRows s base (Short n w u) = 2 ∷ n ∷ base ∷ []
+plainRows s base (Long a n u) = 2 ∷ n ∷ base ∷ []
+plainRows s base (Text a n) = 7 ∷ n ∷ n ∷ charRows (take n (drop a s))
+plainRows s base (Open w a n) = []
+
+-- its data words
+unfoldable pub plainWords : List ℕ → Head → List ℕ
+unfolding packed wordsFor
+plainWords s (Stop n p) = []
+plainWords s Gap = []
+plainWords s (Row k v u) = []
+plainWords s (Short n w u) = take (wordsFor n) (w ∷ [])
+plainWords s (Long a n u) = packed 64 (wordsFor n) (bitsFrom s a n)
+plainWords s (Text a n) = []
+plainWords s (Open w a n) = []
+
+abbrev pub placedAs : ℕ → ℕ → ℕ → ℕ → Placed
+placedAs r c w u = record { rows = r; count = c; words = w; past = u }
+
+unfoldable pub plainPlaced : Head → Placed
+unfolding wordsFor
+plainPlaced (Stop n p) = placedAs 0 0 0 0
+plainPlaced Gap = placedAs 0 0 0 0
+plainPlaced (Row k v u) = placedAs 1 1 0 u
+plainPlaced (Short n w u) = placedAs 1 1 (wordsFor n) u
+plainPlaced (Long a n u) = placedAs 1 1 (wordsFor n) u
+plainPlaced (Text a n) = placedAs (n + 1) 1 0 (a + n)
+plainPlaced (Open w a n) = placedAs 0 0 0 0
+
+unfoldable pub plainStored : Head → Stored
+unfolding plainPlaced
+plainStored h = record { words = plainPlaced h .words; past = plainPlaced h .past }

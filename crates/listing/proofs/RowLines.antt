@@ -1,0 +1,186 @@
+-- The line of a row by its kind, and the bits of a BITS from its data words. Assumes nothing.
+use mathlib.Core.Path.{_≡_, refl, sym, ap, _∙_}
+use mathlib.Core.Bool.{Bool, false}
+use mathlib.Core.List.{List, [], _∷_, _++_, append-assoc, append-nil}
+use Prim.Native.Nat.{ℕ, zero, suc, _+_, _-_, _*_, _/_, _%_, _^_, _≤_, _<_}
+use native.Mathlib.Omega.{arith}
+use mathlib.Core.Logic.{_≢_}
+use lib.ListN.{length, drop, getD, length-append}
+use lib.Seq.{drop-drop, drop-cons}
+use Rattle.format.specs.Choice.{ifEq, pick}
+use Rattle.format.specs.Numbers.{signed}
+use Rattle.format.specs.Bits.{bit, adjusted, wordsFor}
+use Rattle.format.specs.Items.{Leaf, int, bits, char, bool, empty, xtra, Group, struc, edt, leafKind}
+use Rattle.format.specs.Tables.{leafB, rowKind}
+use Rattle.format.proofs.Choices.{ifLt-yes, ifLt-no, ifEq-no}
+use Rattle.format.proofs.TableLaws.{leaf-kind}
+use Rattle.writer.specs.Rows.{kindAt, aAt, bAt, leafAt, LeafAt}
+use Rattle.writer.proofs.BitRows.{adjusted-div, adjusted-mod}
+use Rattle.writer.proofs.LeafForms.{BitsRow, word-at, int-at}
+use Rattle.listing.specs.Lines.{decimal, signedDecimal, bitText, bitsColumn, leafColumns, groupColumns, line, newline}
+use Rattle.listing.specs.Puts.{Wrote}
+use Rattle.listing.specs.RowTexts.{kindWord, leafBits, leafValue, valueAt, rowText}
+
+-- ---- the bits of a BITS
+bit-of-word : (j : ℕ) (bs : List Bool) → j < 64 → adjusted 64 bs / 2 ^ (63 - j) % 2 ≡ adjusted 1 (drop j bs)
+bit-of-word j bs h =
+    let q : 64 ≡ j + 1 + (63 - j) = omega arith in
+    ap (λ z. adjusted z bs / 2 ^ (63 - j) % 2) q ∙ ap (λ z. z % 2) (adjusted-div (j + 1) (63 - j) bs) ∙ adjusted-mod j 1 bs
+
+bit-first : (bs : List Bool) (i : ℕ) → i < length bs → adjusted 1 (drop i bs) ≡ bit (getD bs i false)
+unfolding adjusted
+bit-first bs i h = ap (adjusted 1) (drop-cons bs i false h) ∙ omega arith
+
+text-at : (bs : List Bool) (i : ℕ) → i < length bs → getD (bitText bs) i 0 ≡ 0x30 + bit (getD bs i false)
+unfolding bitText
+text-at [] i h = absurd (omega arith)
+text-at (b ∷ bs) zero h = refl
+text-at (b ∷ bs) (suc i) h = text-at bs i (omega arith)
+
+pub text-length : (bs : List Bool) → length (bitText bs) ≡ length bs
+unfolding bitText
+text-length [] = refl
+text-length (b ∷ bs) = ap suc (text-length bs)
+
+module _ (w : List ℕ) (p : ℕ) (r : BitsRow w p) where
+  pub stream-length : length (bitText (leafBits (leafAt w p))) ≡ aAt w p
+  unfolding leafBits
+  stream-length = rw (r .is, r .number) (text-length (r .stream))
+
+  -- the data word of a bit is there
+  pub word-in : (i : ℕ) → i < aAt w p → 3 * getD w 0 0 + 4 + bAt w p + i / 64 < length w
+  unfolding wordsFor
+  word-in i h =
+      let n = r .number in
+      let s = r .stored in
+      omega arith
+
+  pub stream-at : (i : ℕ) → i < aAt w p →
+      0x30 + getD w (3 * getD w 0 0 + 4 + bAt w p + i / 64) 0 / 2 ^ (63 - i % 64) % 2 ≡ getD (bitText (leafBits (leafAt w p))) i 0
+  unfolding leafBits wordsFor
+  stream-at i h =
+      let bs = r .stream in
+      let n = r .number in
+      let e : 64 * (i / 64) + i % 64 ≡ i = omega arith in
+      rw (r .is) (ap (λ z. 0x30 + z) (ap (λ z. z / 2 ^ (63 - i % 64) % 2) (word-at w p r (i / 64) (omega arith))
+      ∙ bit-of-word (i % 64) (drop (64 * (i / 64)) bs) (omega arith)
+      ∙ ap (adjusted 1) (drop-drop (i % 64) (64 * (i / 64)) bs ∙ ap (λ z. drop z bs) e)
+      ∙ bit-first bs i (omega arith)) ∙ sym (text-at bs i (omega arith)))
+
+  -- the number of bits, then nothing, or a space and the bits
+  pub bits-none : aAt w p ≡ 0 → leafValue (leafAt w p) ≡ decimal (aAt w p)
+  unfolding leafValue bitsColumn
+  bits-none z = rw (r .is, r .number) (go (r .stream) (sym (r .number) ∙ z))
+    where
+      go : (bs : List Bool) → length bs ≡ 0 → decimal (length bs) ++ bitsColumn bs ≡ decimal (length bs)
+      go [] e = append-nil (decimal 0)
+      go (b ∷ bs) e = absurd (omega arith)
+
+  pub bits-some : 0 < aAt w p → leafValue (leafAt w p) ≡ decimal (aAt w p) ++ (0x20 ∷ bitText (leafBits (leafAt w p)))
+  unfolding leafValue bitsColumn leafBits
+  bits-some z = let n = r .number in rw (r .is, r .number) (go (r .stream) (omega arith))
+    where
+      go : (bs : List Bool) → 0 < length bs → decimal (length bs) ++ bitsColumn bs ≡ decimal (length bs) ++ (0x20 ∷ bitText bs)
+      go [] e = absurd (omega arith)
+      go (b ∷ bs) e = refl
+
+  pub bits-long : length (decimal (aAt w p)) ≤ length (leafValue (leafAt w p))
+  unfolding leafValue
+  bits-long = rw (r .is, r .number) (omega (arith, length-append (decimal (length (r .stream))) (bitsColumn (r .stream))))
+
+-- ---- the word of a kind
+pub word-length : (k n : ℕ) → k ≡ n → length (kindWord k) ≡ length (kindWord n)
+word-length k n e = rw e refl
+
+pub word-of : (k n : ℕ) {p e : ℕ} {t u : List ℕ} → k ≡ n → Wrote p (kindWord n) t e u → Wrote p (kindWord k) t e u
+word-of k n q w = rw q w
+
+-- k is none of the numbers from 1 to n, as a `match` tells it
+abbrev pub NoneTo : ℕ → ℕ → Type 0
+NoneTo zero k = Unit {0}
+NoneTo (suc n) k = NoneTo n k × (k ≡ suc n → ⊥)
+
+pub last-word : (k : ℕ) → NoneTo 7 k → kindWord k ≡ kindWord 8
+unfolding kindWord ifEq pick
+last-word k r =
+    ifEq-no k 1 _ _ (r .0 .0 .0 .0 .0 .0 .1) ∙ ifEq-no k 2 _ _ (r .0 .0 .0 .0 .0 .1) ∙ ifEq-no k 3 _ _ (r .0 .0 .0 .0 .1) ∙ ifEq-no k 4 _ _ (r .0 .0 .0 .1) ∙ ifEq-no k 5 _ _ (r .0 .0 .1)
+    ∙ ifEq-no k 6 _ _ (r .0 .1) ∙ ifEq-no k 7 _ _ (r .1)
+
+-- ---- the columns by kind
+leaf-columns : (l : Leaf) → leafColumns l ≡ kindWord (leafKind l) ++ leafValue l
+unfolding leafColumns kindWord leafKind leafValue ifEq pick
+leaf-columns (int z) = refl
+leaf-columns (bits bs) = refl
+leaf-columns (char c) = refl
+leaf-columns (bool b) = refl
+leaf-columns empty = refl
+leaf-columns (xtra n) = refl
+
+group-columns : (g : Group) (n : ℕ) → groupColumns g n ≡ kindWord (rowKind g) ++ decimal n
+unfolding groupColumns kindWord rowKind ifEq pick
+group-columns struc n = refl
+group-columns edt n = refl
+
+group-kind : (g : Group) → 7 ≤ rowKind g
+unfolding rowKind
+group-kind struc = omega arith
+group-kind edt = omega arith
+
+empty-value : (l : Leaf) → leafKind l ≡ 5 → leafValue l ≡ []
+unfolding leafKind leafValue
+empty-value (int z) k = absurd (omega arith)
+empty-value (bits bs) k = absurd (omega arith)
+empty-value (char c) k = absurd (omega arith)
+empty-value (bool b) k = absurd (omega arith)
+empty-value empty k = refl
+empty-value (xtra n) k = absurd (omega arith)
+
+plain-value : (l : Leaf) (d : ℕ) → leafKind l ≢ 1 → leafKind l ≢ 2 → leafKind l ≢ 5 → leafValue l ≡ decimal (leafB d l)
+unfolding leafKind leafValue leafB
+plain-value (int z) d i b e = absurd (i refl)
+plain-value (bits bs) d i b e = absurd (b refl)
+plain-value (char c) d i b e = refl
+plain-value (bool x) d i b e = refl
+plain-value empty d i b e = absurd (e refl)
+plain-value (xtra n) d i b e = refl
+
+-- ---- what a row has behind its kind
+module _ (w : List ℕ) (p : ℕ) where
+  pub value-group : 7 ≤ kindAt w p → valueAt w p ≡ decimal (aAt w p)
+  unfolding valueAt
+  value-group h = ifLt-no (kindAt w p) 7 _ _ h
+
+  pub value-leaf : kindAt w p < 7 → valueAt w p ≡ leafValue (leafAt w p)
+  unfolding valueAt
+  value-leaf h = ifLt-yes (kindAt w p) 7 _ _ h
+
+  pub value-int : kindAt w p ≡ 1 → valueAt w p ≡ signedDecimal (signed 8 (bAt w p))
+  unfolding leafValue
+  value-int k = value-leaf (omega arith) ∙ ap leafValue (int-at w p k)
+
+  pub value-empty : LeafAt w p → kindAt w p ≡ 5 → valueAt w p ≡ []
+  value-empty h k = value-leaf (omega arith) ∙ empty-value (leafAt w p) (sym (h .row .kind) ∙ k)
+
+  pub value-plain : LeafAt w p → kindAt w p < 7 → kindAt w p ≢ 1 → kindAt w p ≢ 2 → kindAt w p ≢ 5 → valueAt w p ≡ decimal (bAt w p)
+  value-plain h l i b e =
+      let k = h .row .kind in
+      value-leaf l ∙ plain-value (leafAt w p) (h .before) (λ z. i (k ∙ z)) (λ z. b (k ∙ z)) (λ z. e (k ∙ z)) ∙ ap decimal (sym (h .row .b))
+
+  -- ---- the line
+  pub leaf-line : (d : ℕ) → LeafAt w p → rowText d w p ≡ line d (leafColumns (leafAt w p))
+  unfolding rowText line
+  leaf-line d h =
+      let k = h .row .kind in
+      let v = value-leaf (omega (arith, leaf-kind (leafAt w p))) in
+      rw (v, k, leaf-columns (leafAt w p)) (ap (λ z. decimal d ++ z) (sym (append-assoc (kindWord (leafKind (leafAt w p))) (leafValue (leafAt w p)) (newline ∷ []))))
+
+  pub group-line : (d : ℕ) (g : Group) (n : ℕ) → kindAt w p ≡ rowKind g → aAt w p ≡ n → rowText d w p ≡ line d (groupColumns g n)
+  unfolding rowText line
+  group-line d g n k a =
+      let v = value-group (omega (arith, group-kind g)) in
+      rw (v, k, a, group-columns g n) (ap (λ z. decimal d ++ z) (sym (append-assoc (kindWord (rowKind g)) (decimal n) (newline ∷ []))))
+
+  pub row-length : (d : ℕ) → length (rowText d w p) ≡ length (decimal d) + length (kindWord (kindAt w p)) + length (valueAt w p) + 1
+  unfolding rowText
+  row-length d =
+      omega (arith, length-append (decimal d) (kindWord (kindAt w p) ++ (valueAt w p ++ (newline ∷ []))), length-append (kindWord (kindAt w p)) (valueAt w p ++ (newline ∷ [])), length-append (valueAt w p) (newline ∷ []))

@@ -1,0 +1,37 @@
+// The lines of a run of rows. Each row is visited once.
+ghost use Prim.Native.Nat.{_+_, _≤_};
+ghost use mathlib.Core.Path.{_≡_};
+ghost use lib.ListN.{length};
+ghost use Rattle.format.specs.Normal.{depth};
+ghost use Rattle.writer.specs.Rows.{Run, itemsAt};
+ghost use Rattle.listing.specs.Lines.{lines};
+ghost use Rattle.listing.specs.Puts.{Wrote};
+use crate::rows::put_row;
+
+// The rows from `from` up to `to`, which stand inside `level` containers; the elements of a container stand one level deeper.
+pub fn put_run(
+    table: &[u64],
+    from: usize,
+    to: usize,
+    level: usize,
+    out: &mut [u8],
+    at: usize,
+) -> usize
+    requires { ⌜ Run (now table) from to × (level + depth (itemsAt (now table) from to) ≤ 16) ⌝ }
+    requires { ⌜ at + length (lines level (itemsAt (now table) from to)) ≤ length (now out) ⌝ }
+    ensures { λ r. ⌜ Wrote at (lines level (itemsAt (now (table .entry)) from to)) (now (out .entry)) r (now (out .exit)) ⌝ }
+{
+    let mut p = from;
+    let mut n = at;
+    while p < to {
+        n = put_row(table, p, level, out, n);
+        if table[3 * p + 4] < 7 {
+            p += 1;
+            continue;
+        }
+        let next = p + 1 + (table[3 * p + 6] as usize);
+        n = put_run(table, p + 1, next, level + 1, out, n);
+        p = next;
+    }
+    n
+}

@@ -1,0 +1,4 @@
+pub mod Cases
+pub mod Demands
+pub mod ReadCases
+pub mod WriteCases

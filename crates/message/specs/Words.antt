@@ -1,0 +1,51 @@
+-- The words of the demands, for the theorems in proofs/Demands.antt.
+use Prim.Native.Nat.{ℕ, _≤_}
+use mathlib.Core.Path.{_≡_}
+use mathlib.Core.Bool.{true}
+use mathlib.Core.List.{List}
+use lib.ListN.{length, take}
+use Rattle.format.specs.Refusals.{byteLimit, rowLimit, wordLimit, depthLimit}
+use Rattle.format.specs.Items.{Items}
+use Rattle.format.specs.Messages.{says, outcome}
+use Rattle.format.specs.Tables.{rows, dataWords, tableOf, wordsNeeded, lawful}
+use Rattle.format.specs.Normal.{normal, depth}
+use Rattle.format.specs.Answers.{Normalising, reading}
+
+-- "A message says a list of items, found from its bytes alone."
+abbrev pub Says : List ℕ → Items → Type 0
+Says m xs = outcome m ≡ says xs
+
+-- "A message is accepted when none of the numbers 1 to 11 is due for it and the table lent; reading then returns 0."
+abbrev pub Accepted : List ℕ → List ℕ → Type 0
+Accepted m t = reading m t .number ≡ 0
+
+-- None of the numbers 1 to 11 is due for a message that says xs, and a table of n words: 1; 2 to 9; 10 twice; 11.
+pub record NoneDue (m : List ℕ) (xs : Items) (n : ℕ) : Type 0 where
+  pub short : length m ≤ byteLimit
+  pub said : Says m xs
+  pub few-rows : rows xs ≤ rowLimit
+  pub few-words : length (dataWords xs) ≤ wordLimit
+  pub room : wordsNeeded xs ≤ n
+
+-- "exactly the table of some list of items within the row and data limits, EDT rule included. Words past the data belong to the
+-- caller"
+pub record IsTable (w : List ℕ) (xs : Items) : Type 0 where
+  pub lawful : lawful xs ≡ true
+  pub exact : take (length (tableOf xs)) w ≡ tableOf xs
+
+-- None of the numbers 13, 14 and 15 is due for a table of these items, and an output of n bytes.
+pub record Writable (xs : Items) (n : ℕ) : Type 0 where
+  pub shallow : depth xs ≤ depthLimit
+  pub short : length (normal xs) ≤ byteLimit
+  pub room : length (normal xs) ≤ n
+
+-- "Room lent is a table of at least the words its items need and, for normalising, an output at least as long as the normal form."
+-- The normal form is within the limit: "whose normal forms are at most 65,536 bytes".
+pub record Ready (m : List ℕ) (xs : Items) (t o : List ℕ) : Type 0 where
+  pub read : NoneDue m xs (length t)
+  pub short : length (normal xs) ≤ byteLimit
+  pub room : length (normal xs) ≤ length o
+
+-- "what it gives is its output up to the length it returns"
+abbrev pub given : Normalising → List ℕ
+given a = take (a .length) (a .output)

@@ -1,0 +1,146 @@
+-- One object: what the scan answers is what the meaning says, by what its head is. Assumes nothing.
+use Prim.Native.Nat.{ℕ, suc, _+_, _-_, _*_, _/_, _≤_, _<_}
+use native.Mathlib.Omega.{arith}
+use native.Mathlib.Numerals.{add-one}
+use mathlib.Core.Path.{_≡_, refl, sym, ap, ap₂, _∙_, subst}
+use mathlib.Core.Bool.{Bool, true, false}
+use mathlib.Core.List.{List}
+use lib.ListN.{length, take, drop, length-drop}
+use lib.Seq.{length-take-le}
+use Rattle.format.specs.Choice.{pick}
+use Rattle.format.specs.Bits.{spread, bytesFor, wordsFor}
+use Rattle.format.specs.Refusals.{at, further}
+use Rattle.format.specs.Items.{Items, end, group, struc, edt, one, bits, kinds, uniform, edtRule}
+use Rattle.format.specs.Objects as O
+use Rattle.format.specs.Messages.{Outcome, Object, closing, around, object, reads}
+use Rattle.format.proofs.BitLaws.{spread-length, bytes-enough}
+use Rattle.format.proofs.Parts.{middle-part}
+use Rattle.format.proofs.Sizes.{contents-length}
+use Rattle.format.proofs.Steps.{objectAt}
+use Rattle.wire.specs.declared.head.Wrap.{Wrap}
+use Rattle.wire.specs.declared.head.Wrap.the-variants.{Struc, Ustruc, Edt, Repeat}
+use Rattle.wire.specs.declared.head.Head.{Head}
+use Rattle.wire.specs.declared.head.Head.the-variants.{Stop, Gap, Row, Short, Long, Text, Open}
+use Rattle.wire.specs.Heads.{HeadIs, bitsFrom, wrapOf}
+use Rattle.scan.specs.declared.summary.Summary.{Summary}
+use Rattle.scan.specs.declared.Scanned.the-variants.{Refused, Accepted}
+use Rattle.scan.specs.declared.closing.Object as D
+use Rattle.scan.specs.declared.closing.Object.the-variants.{Bad, Got}
+use Rattle.scan.specs.Sums.{cap, sumOf, nothingOf, oneOf, strucKind, groupOf}
+use Rattle.scan.specs.Answer.{answer, answerObject, closedUstruc, closedEdt, closedOf}
+use Rattle.scan.proofs.KindsMet.{kinds-codes, several, struc-kind, edt-leads}
+use Rattle.scan.proofs.SumLaws.{sum-none, sum-row, sum-bits, sum-text, sum-group, sum-times}
+use Rattle.scan.proofs.Told.{refused-run, accepted-run}
+use Rattle.scan.proofs.Bounds.{HeadWithin, head-within, RunWithin, reads-within}
+
+-- ---- closing
+struc-sum : (xs : Items) → sumOf (group struc xs end) ≡ groupOf (strucKind (sumOf xs .mix)) (sumOf xs)
+unfolding sumOf
+struc-sum xs = sum-group struc xs ∙ ap (λ k. groupOf k (sumOf xs)) (sym (struc-kind (kinds xs) (kinds-codes xs)))
+
+picked : (b : Bool) (x y : Object) → answerObject (pick b x y) ≡ pick b (answerObject x) (answerObject y)
+unfolding pick
+picked true x y = refl
+picked false x y = refl
+
+closed-answer : (w : Wrap) (u : ℕ) (xs : Items) → answerObject (closing (wrapOf w) u xs) ≡ closedOf w (sumOf xs) u
+unfolding closing wrapOf closedOf closedUstruc closedEdt answerObject sumOf uniform edtRule
+closed-answer Struc u xs = ap (λ a. Got a u) (struc-sum xs)
+closed-answer Ustruc u xs =
+    picked (uniform xs) _ _ ∙ ap (λ a. pick (uniform xs) (Got a u) (Bad 8 0)) (struc-sum xs) ∙ sym (several (kinds xs) _ _ (kinds-codes xs))
+closed-answer Edt u xs =
+    picked (edtRule xs) _ _ ∙ ap (λ a. pick (edtRule xs) (Got a u) (Bad 9 0)) (sum-group edt xs) ∙ sym (edt-leads (kinds xs) _ _)
+closed-answer (Repeat k) u xs = ap (λ a. Got a u) (sum-times k xs)
+
+-- ---- the cases of a head, as the code has them
+from-length : (s : List ℕ) (a n : ℕ) → a + bytesFor n ≤ length s → length (bitsFrom s a n) ≡ n
+from-length s a n h =
+    let e : length (take (bytesFor n) (drop a s)) ≡ bytesFor n = length-take-le (bytesFor n) (drop a s) (omega (arith, length-drop a s)) in
+    length-take-le n (spread 8 (take (bytesFor n) (drop a s))) (omega (arith, spread-length 8 (take (bytesFor n) (drop a s)), bytes-enough n))
+
+module _ (d b : ℕ) (s : List ℕ) (r : Head) (t : HeadIs s r (O.headOf d b s)) where
+  is : (x : Head) → r ≡ x → HeadIs s x (O.headOf d b s)
+  is x e = subst (λ y. HeadIs s y (O.headOf d b s)) e t
+
+  as-head : (h : O.Head) → O.headOf d b s ≡ h → objectAt d b s ≡ object (λ a n. reads (suc d) (O.contents s a n)) h
+  unfolding objectAt
+  as-head h e = ap (object (λ a n. reads (suc d) (O.contents s a n))) e
+
+  given : (xs : Items) (u : ℕ) (a : Summary) → O.headOf d b s ≡ O.gives xs u → a ≡ sumOf xs → Got a u ≡ answerObject (objectAt d b s)
+  unfolding object answerObject
+  given xs u a e f = ap (λ z. Got z u) f ∙ sym (ap answerObject (as-head (O.gives xs u) e))
+
+  pub stop-is : (n p : ℕ) → r ≡ Stop n p → Bad n p ≡ answerObject (objectAt d b s)
+  unfolding object answerObject
+  stop-is n p e = sym (ap answerObject (as-head (O.stop (at p n)) (is (Stop n p) e)))
+
+  pub gap-is : (a : Summary) → r ≡ Gap → a ≡ nothingOf → Got a 0 ≡ answerObject (objectAt d b s)
+  gap-is a e f = given end 0 a (is Gap e) (f ∙ sym sum-none)
+
+  pub row-is : (k v u : ℕ) (a : Summary) → r ≡ Row k v u → a ≡ oneOf k 1 0 → Got a u ≡ answerObject (objectAt d b s)
+  row-is k v u a e f =
+      let x = is (Row k v u) e in
+      given (one (x .0)) u a (x .1) (f ∙ sym (sum-row (x .0) k (x .2 .kind) (x .2 .none)))
+
+  pub short-few : (n w u : ℕ) → r ≡ Short n w u → n ≤ 63
+  short-few n w u e = is (Short n w u) e .2 .few
+
+  pub short-is : (n w u : ℕ) (a : Summary) → r ≡ Short n w u → a ≡ oneOf 2 1 (wordsFor n) → Got a u ≡ answerObject (objectAt d b s)
+  unfolding wordsFor
+  short-is n w u a e f =
+      let x = is (Short n w u) e in
+      let g : (n + 63) / 64 ≤ 65536 = omega (arith, x .2 .few) in
+      given (one (bits (x .0))) u a (x .1) (f ∙ sym (sum-bits (x .0) n (x .2 .many) g))
+
+  pub long-few : (a n u : ℕ) → r ≡ Long a n u → n ≤ 8 * length s
+  unfolding bytesFor
+  long-few a n u e = let x = is (Long a n u) e in omega (arith, x .1, x .2)
+
+  pub long-is : (a n u : ℕ) (z : Summary) → length s ≤ 65536 → r ≡ Long a n u → z ≡ oneOf 2 1 (wordsFor n) → Got z u ≡ answerObject (objectAt d b s)
+  unfolding wordsFor
+  long-is a n u z h e f =
+      let x = is (Long a n u) e in
+      let g : (n + 63) / 64 ≤ 65536 = omega (arith, long-few a n u e) in
+      given (one (bits (bitsFrom s a n))) u z (x .0) (f ∙ sym (sum-bits (bitsFrom s a n) n (from-length s a n (omega (arith, x .1, x .2))) g))
+
+  pub text-fits : (a n : ℕ) → r ≡ Text a n → a + n ≤ length s
+  text-fits a n e = is (Text a n) e .1
+
+  pub text-is : (a n : ℕ) (z : Summary) → r ≡ Text a n → z ≡ oneOf 9 (cap (n + 1)) 0 → Got z (a + n) ≡ answerObject (objectAt d b s)
+  text-is a n z e f =
+      let x = is (Text a n) e in
+      given (group struc (O.characters (O.contents s a n)) end) (a + n) z (x .0)
+      (f ∙ sym (sum-text (O.contents s a n) n (contents-length s a n (x .1))))
+
+  -- a container
+  module _ (w : Wrap) (a n : ℕ) (e : r ≡ Open w a n) where
+    pub open-fits : (a + n ≤ length s) × (d < 16)
+    open-fits = subst (HeadWithin d (length s)) (is (Open w a n) e .0) (head-within d b s)
+
+    -- its contents, as the code lends them on
+    abbrev inner : Outcome
+    inner = reads (d + 1) (take (a + n - a) (drop a s))
+
+    open-as : objectAt d b s ≡ around (wrapOf w) a n inner
+    unfolding object O.contents
+    open-as =
+        as-head (O.opens (wrapOf w) a n) (is (Open w a n) e .0)
+        ∙ ap₂ (λ k l. around (wrapOf w) a n (reads k l)) (sym (add-one d)) (sym (middle-part s a n))
+
+    pub open-place : (m p : ℕ) → Refused m p ≡ answer inner → p < n
+    unfolding O.contents
+    open-place m p y =
+        let l : length (take (a + n - a) (drop a s)) ≡ n = ap length (middle-part s a n) ∙ contents-length s a n (open-fits .0) in
+        subst (RunWithin n) (refused-run m p inner y)
+        (subst (λ k. RunWithin k inner) l (reads-within (d + 1) (take (a + n - a) (drop a s))))
+
+    pub open-refused : (m p : ℕ) → Refused m p ≡ answer inner → Bad m (1 + a + p) ≡ answerObject (objectAt d b s)
+    unfolding around further answerObject
+    open-refused m p y = sym (ap answerObject (open-as ∙ ap (around (wrapOf w) a n) (refused-run m p inner y)))
+
+    pub open-accepted : (c : Summary) (o : D.Object) → Accepted c ≡ answer inner → o ≡ closedOf w c (a + n) → o ≡ answerObject (objectAt d b s)
+    unfolding around
+    open-accepted c o y f =
+        let x = accepted-run c inner y in
+        f ∙ ap (λ z. closedOf w z (a + n)) (x .2) ∙ sym (closed-answer w (a + n) (x .0))
+        ∙ sym (ap answerObject (open-as ∙ ap (around (wrapOf w) a n) (x .1)))

@@ -1,0 +1,84 @@
+-- `leap_from` meets its contract, for each class of one-byte objects. Assumes nothing.
+use native.Mathlib.Omega.{arith}
+use mathlib.Core.Path.{sym, ap, _∙_}
+use Rattle.scan.specs.Sums.{powerOf}
+use Rattle.scan.proofs.Stretches.{a-char, an-int, padding, power-none, leapt, no-leap}
+use borrow.Author.Needs.{needs}
+use Rattle.scan.proofs.stretch.leap_from.Statement.{statement}
+use Rattle.scan.proofs.stretch.leap_from.Tie as tie
+
+shared-slice-read-b : tie.Need-shared-slice-read-b
+shared-slice-read-b c = search needs
+
+until-requires : tie.Need-until-requires
+until-requires c κs = search needs
+
+sub-power : tie.Need-sub-power
+sub-power c = search needs
+
+one-of-requires : tie.Need-one-of-requires
+one-of-requires c κs = search needs
+
+power-requires : tie.Need-power-requires
+power-requires c κs = search needs
+
+returns : tie.Need-returns
+returns c =
+    leapt 0 0x7f _ a-char (c .before .before .before .before .before .before .args .s .now) _ _ (c .before .before .until .ensures) _
+    (c .power .ensures ∙ ap (powerOf _) (c .before .one-of .ensures))
+
+until-requires-2 : tie.Need-until-requires-2
+until-requires-2 c κs = search needs
+
+sub-power-2 : tie.Need-sub-power-2
+sub-power-2 c = search needs
+
+one-of-requires-2 : tie.Need-one-of-requires-2
+one-of-requires-2 c κs = search needs
+
+power-requires-2 : tie.Need-power-requires-2
+power-requires-2 c κs = search needs
+
+returns-2 : tie.Need-returns-2
+returns-2 c =
+    leapt 0x80 0xbf _ an-int (c .before .before .before .before .before .before .before .args .s .now) _ _ (c .before .before .until2 .ensures) _
+    (c .power2 .ensures ∙ ap (powerOf _) (c .before .one-of2 .ensures))
+
+until-requires-3 : tie.Need-until-requires-3
+until-requires-3 c κs = search needs
+
+nothing-requires : tie.Need-nothing-requires
+nothing-requires c κs = search needs
+
+returns-3 : tie.Need-returns-3
+returns-3 c =
+    leapt 0xff 0xff _ padding (c .before .before .before .before .before .before .before .args .s .now) _ _ (c .before .until3 .ensures) _
+    (c .nothing .ensures ∙ sym (power-none _))
+
+nothing-requires-2 : tie.Need-nothing-requires-2
+nothing-requires-2 c κs = search needs
+
+returns-4 : tie.Need-returns-4
+returns-4 c =
+    no-leap (c .before .before .before .before .before .before .args .s .now) _ (omega arith) _ (c .nothing2 .ensures)
+
+pub leap-from-spec : {M : Type 1} → statement M
+leap-from-spec =
+    tie.close
+    (tie.spec
+    shared-slice-read-b
+    until-requires
+    sub-power
+    one-of-requires
+    power-requires
+    returns
+    until-requires-2
+    sub-power-2
+    one-of-requires-2
+    power-requires-2
+    returns-2
+    until-requires-3
+    nothing-requires
+    returns-3
+    nothing-requires-2
+    returns-4)

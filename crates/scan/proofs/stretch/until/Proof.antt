@@ -1,0 +1,59 @@
+-- `until` meets its contract: up to e every byte from i on lies within the range. Assumes nothing.
+use borrow.Author.Needs.{needs}
+use native.Mathlib.Omega.{arith}
+use native.Mathlib.Nat.{le-refl}
+use Prim.Native.Nat.{_-_, _≤_}
+use lib.ListN.{length}
+use Rattle.scan.specs.Stretch.{Between}
+use Rattle.scan.proofs.Stretches.{between-none, between-next}
+use Rattle.scan.proofs.stretch.until.Statement.{statement}
+use Rattle.scan.proofs.stretch.until.Tie as tie
+
+abbrev Inv-loop : tie.InvT-loop
+Inv-loop s i lo hi e₀ e = (i ≤ e) × (e ≤ length s) × Between lo hi i e s
+
+abbrev μ-loop : tie.MeasureT-loop
+μ-loop s i lo hi e₀ e = length s - e
+
+loop-holds : tie.Need-loop-holds Inv-loop μ-loop
+loop-holds c = (le-refl _, c .pre, between-none _ _ _ (c .args .s .now))
+
+shared-slice-read-b : tie.Need-shared-slice-read-b Inv-loop μ-loop
+shared-slice-read-b c = search needs
+
+returns : tie.Need-returns Inv-loop μ-loop
+returns c = c .before .before .before .loop .inv
+
+returns-2 : tie.Need-returns-2 Inv-loop μ-loop
+returns-2 c = c .before .before .before .before .loop .inv
+
+add-e : tie.Need-add-e Inv-loop μ-loop
+add-e c = search needs
+
+loop-less : tie.Need-loop-less Inv-loop μ-loop
+loop-less c = search needs
+
+loop-again : tie.Need-loop-again Inv-loop μ-loop
+loop-again c = (
+  omega arith,
+  omega arith,
+  between-next _ _ _ _ (c .before .before .before .before .before .args .s .now) (c .before .before .before .before .loop .inv .2) (c .before .if1 .left) (c .if2 .left),
+)
+
+returns-3 : tie.Need-returns-3 Inv-loop μ-loop
+returns-3 c = c .before .loop .inv
+
+pub until-spec : {M : Type 1} → statement M
+until-spec =
+    tie.close
+    (tie.spec
+    Inv-loop
+    μ-loop
+    loop-holds
+    shared-slice-read-b
+    returns
+    returns-2
+    add-e
+    loop-less
+    loop-again
+    returns-3)

@@ -1,0 +1,27 @@
+-- `product_capped` meets its contract: two numbers up to 65,536 have a product that fits. Assumes nothing.
+use Prim.Native.Nat.{_*_, _≤_}
+use native.Mathlib.Omega.{arith}
+use native.Mathlib.Nat.{mul-le-mul}
+use mathlib.Core.Path.{refl, _∙_}
+use borrow.Author.Needs.{needs}
+use Rattle.scan.proofs.summary.product_capped.Statement.{statement}
+use Rattle.scan.proofs.summary.product_capped.Tie as tie
+
+capped-requires : tie.Need-capped-requires
+capped-requires c κs = search needs
+
+capped-requires-2 : tie.Need-capped-requires-2
+capped-requires-2 c κs = search needs
+
+mul-capped : tie.Need-mul-capped
+mul-capped c = let b : c .before .capped .result * c .capped2 .result ≤ 65536 * 65536 = mul-le-mul {n₂ = 65536} {m₂ = 65536} (omega arith) (omega arith) in omega arith
+
+capped-requires-3 : tie.Need-capped-requires-3
+capped-requires-3 c κs = search needs
+
+returns : tie.Need-returns
+returns c = c .capped3 .ensures ∙ rw (c .before .before .capped .ensures, c .before .capped2 .ensures) refl
+
+pub product-capped-spec : {M : Type 1} → statement M
+product-capped-spec =
+    tie.close (tie.spec capped-requires capped-requires-2 mul-capped capped-requires-3 returns)

@@ -1,0 +1,98 @@
+-- What a list of items comes to, component by component; and the same of lists that are joined, repeated and closed over, from
+-- what they come to alone.
+use Prim.Native.Nat.{ℕ, _+_, _*_, min}
+use mathlib.Core.List.{List, [], _∷_}
+use lib.ListN.{length}
+use Rattle.format.specs.Choice.{ifEq}
+use Rattle.format.specs.Items.{Items, CHAR, STRUC, STRING, kinds}
+use Rattle.format.specs.Tables.{rows, dataWords}
+use Rattle.scan.specs.declared.summary.Summary.{Summary}
+
+-- rows and data words are counted up to 65,536 and no further
+abbrev pub cap : ℕ → ℕ
+cap n = min n 65536
+
+-- the kinds met: 0 none, 255 several, else the one
+unfoldable pub mixed : ℕ → ℕ → ℕ
+unfolding ifEq
+mixed a b = ifEq a 0 b (ifEq b 0 a (ifEq a b a 255))
+
+unfoldable pub mixOf : List ℕ → ℕ
+unfolding mixed
+mixOf [] = 0
+mixOf (k ∷ ks) = mixed k (mixOf ks)
+
+-- the first two kinds, 0 where there is none
+unfoldable pub firstOf : List ℕ → ℕ
+firstOf [] = 0
+firstOf (k ∷ ks) = k
+
+unfoldable pub secondOf : List ℕ → ℕ
+unfolding firstOf
+secondOf [] = 0
+secondOf (k ∷ ks) = firstOf ks
+
+unfoldable pub sumOf : Items → Summary
+unfolding rows dataWords kinds mixOf firstOf secondOf
+sumOf xs =
+    record {
+      rows = cap (rows xs);
+      words = cap (length (dataWords xs));
+      mix = mixOf (kinds xs);
+      first = firstOf (kinds xs);
+      second = secondOf (kinds xs);
+    }
+
+-- no items
+abbrev pub nothingOf : Summary
+nothingOf = record { rows = 0; words = 0; mix = 0; first = 0; second = 0 }
+
+-- one item of kind k, with r rows and d data words
+abbrev pub oneOf : ℕ → ℕ → ℕ → Summary
+oneOf k r d = record { rows = r; words = d; mix = k; first = k; second = 0 }
+
+unfoldable pub orElse : ℕ → ℕ → ℕ
+unfolding ifEq
+orElse a b = ifEq a 0 b a
+
+unfoldable pub secondSum : Summary → Summary → ℕ
+unfolding ifEq orElse
+secondSum a b = ifEq (a .first) 0 (b .second) (orElse (a .second) (b .first))
+
+-- the one, then the other
+unfoldable pub plusOf : Summary → Summary → Summary
+unfolding mixed orElse secondSum
+plusOf a b =
+    record {
+      rows = cap (cap (a .rows) + cap (b .rows));
+      words = cap (cap (a .words) + cap (b .words));
+      mix = mixed (a .mix) (b .mix);
+      first = orElse (a .first) (b .first);
+      second = secondSum a b;
+    }
+
+-- k times, k not 0: two of them settle the second kind
+unfoldable pub secondPower : ℕ → Summary → ℕ
+unfolding ifEq orElse
+secondPower k a = ifEq k 1 (a .second) (orElse (a .second) (a .first))
+
+unfoldable pub powerOf : ℕ → Summary → Summary
+unfolding ifEq secondPower
+powerOf k a =
+    ifEq k 0 nothingOf
+    (record {
+      rows = cap (cap k * cap (a .rows));
+      words = cap (cap k * cap (a .words));
+      mix = a .mix;
+      first = a .first;
+      second = secondPower k a;
+    })
+
+-- the kind of a STRUC by the kinds of its elements
+unfoldable pub strucKind : ℕ → ℕ
+unfolding ifEq
+strucKind m = ifEq m 0 STRING (ifEq m CHAR STRING STRUC)
+
+-- a container of kind k
+abbrev pub groupOf : ℕ → Summary → Summary
+groupOf k a = oneOf k (cap (cap (a .rows) + cap 1)) (cap (a .words))

@@ -1,0 +1,187 @@
+// What a run of items comes to, counted and not laid out: a repeat's summary is a power of its pattern's.
+ghost use mathlib.Core.Path.{_≡_};
+ghost use Prim.Native.Nat.{_+_, _*_, _/_, _≤_};
+ghost use Rattle.format.specs.Bits.{wordsFor};
+ghost use Rattle.scan.specs.Sums.{cap, mixed, orElse, secondSum, secondPower, nothingOf, oneOf, plusOf, powerOf, strucKind, groupOf};
+
+// The kinds that the rules name, as the table has them, with 9 for a string.
+pub const INT: usize = 1;
+
+pub const BITS: usize = 2;
+
+pub const CHAR: usize = 3;
+
+pub const STRUC: usize = 7;
+
+pub const EDT: usize = 8;
+
+pub const STRING: usize = 9;
+
+// In the place of a kind: more than one.
+pub const SEVERAL: usize = 255;
+
+// Rows and data words are counted up to 65,536 and no further. `mix` is the kinds met: 0 none, SEVERAL, or else the one.
+// `first` and `second` are the first two kinds, 0 where there is none.
+pub struct Summary {
+    pub rows: usize,
+    pub words: usize,
+    pub mix: usize,
+    pub first: usize,
+    pub second: usize,
+}
+
+pub fn capped(n: usize) -> usize
+    ensures { λ r. ⌜ r ≡ cap n ⌝ }
+{
+    if n <= 65536 { n } else { 65536 }
+}
+
+fn sum_capped(a: usize, b: usize) -> usize
+    ensures { λ r. ⌜ r ≡ cap (cap a + cap b) ⌝ }
+{
+    capped(capped(a) + capped(b))
+}
+
+fn product_capped(a: usize, b: usize) -> usize
+    ensures { λ r. ⌜ r ≡ cap (cap a * cap b) ⌝ }
+{
+    capped(capped(a) * capped(b))
+}
+
+// The kinds met of two runs together.
+fn mixed_of(a: usize, b: usize) -> usize
+    ensures { λ r. ⌜ r ≡ mixed a b ⌝ }
+{
+    if a == 0 {
+        return b;
+    }
+    if b == 0 {
+        return a;
+    }
+    if a == b {
+        return a;
+    }
+    SEVERAL
+}
+
+// The first, unless it is 0.
+fn or_else(a: usize, b: usize) -> usize
+    ensures { λ r. ⌜ r ≡ orElse a b ⌝ }
+{
+    if a == 0 { b } else { a }
+}
+
+// The second kind of one run after another.
+fn second_of(a: Summary, b: Summary) -> usize
+    ensures { λ r. ⌜ r ≡ secondSum a b ⌝ }
+{
+    if a.first == 0 {
+        return b.second;
+    }
+    or_else(a.second, b.first)
+}
+
+// No items.
+pub fn nothing() -> Summary
+    ensures { λ r. ⌜ r ≡ nothingOf ⌝ }
+{
+    Summary {
+        rows: 0,
+        words: 0,
+        mix: 0,
+        first: 0,
+        second: 0,
+    }
+}
+
+// One element of a kind, with the rows and the data words that it has.
+pub fn one_of(kind: usize, rows: usize, words: usize) -> Summary
+    ensures { λ r. ⌜ r ≡ oneOf kind rows words ⌝ }
+{
+    Summary {
+        rows,
+        words,
+        mix: kind,
+        first: kind,
+        second: 0,
+    }
+}
+
+// A BITS of n bits.
+pub fn bits_of(n: usize) -> Summary
+    requires { ⌜ n ≤ 524288 ⌝ }
+    ensures { λ r. ⌜ r ≡ oneOf 2 1 (wordsFor n) ⌝ }
+{
+    one_of(BITS, 1, (n + 63) / 64)
+}
+
+// One run after another.
+pub fn plus(a: Summary, b: Summary) -> Summary
+    ensures { λ r. ⌜ r ≡ plusOf a b ⌝ }
+{
+    Summary {
+        rows: sum_capped(a.rows, b.rows),
+        words: sum_capped(a.words, b.words),
+        mix: mixed_of(a.mix, b.mix),
+        first: or_else(a.first, b.first),
+        second: second_of(a, b),
+    }
+}
+
+// The second kind of a run that stands k times, k not 0: two of them settle it.
+fn second_power(k: usize, a: Summary) -> usize
+    ensures { λ r. ⌜ r ≡ secondPower k a ⌝ }
+{
+    if k == 1 {
+        return a.second;
+    }
+    or_else(a.second, a.first)
+}
+
+// A run that stands k times. However large k is, nothing is walked.
+pub fn power(k: usize, a: Summary) -> Summary
+    ensures { λ r. ⌜ r ≡ powerOf k a ⌝ }
+{
+    if k == 0 {
+        return nothing();
+    }
+    Summary {
+        rows: product_capped(k, a.rows),
+        words: product_capped(k, a.words),
+        mix: a.mix,
+        first: a.first,
+        second: second_power(k, a),
+    }
+}
+
+// A STRUC whose elements are all CHAR, the empty one included, is a string.
+fn struc_kind(mix: usize) -> usize
+    ensures { λ r. ⌜ r ≡ strucKind mix ⌝ }
+{
+    if mix == 0 {
+        return STRING;
+    }
+    if mix == CHAR {
+        return STRING;
+    }
+    STRUC
+}
+
+// A container of a kind around elements that come to a.
+fn group(kind: usize, a: Summary) -> Summary
+    ensures { λ r. ⌜ r ≡ groupOf kind a ⌝ }
+{
+    one_of(kind, sum_capped(a.rows, 1), capped(a.words))
+}
+
+pub fn struc(a: Summary) -> Summary
+    ensures { λ r. ⌜ r ≡ groupOf (strucKind (a .mix)) a ⌝ }
+{
+    group(struc_kind(a.mix), a)
+}
+
+pub fn edt(a: Summary) -> Summary
+    ensures { λ r. ⌜ r ≡ groupOf 8 a ⌝ }
+{
+    group(EDT, a)
+}

@@ -1,0 +1,188 @@
+-- Words are a table exactly where the judge finds the header and each row in order. Assumes nothing.
+use mathlib.Core.Path.{_≡_, refl, sym, _∙_, ap, ap₂, subst}
+use mathlib.Core.List.{List}
+use mathlib.Core.Bool.{Bool, true, false}
+use Prim.Native.Nat.{ℕ, zero, suc, _+_, _-_, _*_, _^_, _<_, _≤_}
+use native.Mathlib.Omega.{arith}
+use lib.ListN.{length, getD, length-append}
+use Rattle.format.specs.Items.{Group, struc, edt, Items, end, leaf, group, edtRule, properGroup}
+use Rattle.format.specs.Tables.{count, rows, leafWords, dataWords, rowKind}
+use Rattle.format.proofs.Choices.{split, split-eq, true-eq, eq-true}
+use Rattle.format.proofs.TableLaws.{leaf-kind}
+use Rattle.writer.specs.Rows.{kindAt, aAt, bAt, Stands, lands, edtRows, groupOk, dataTo, rowOk}
+use Rattle.writer.proofs.RowLaws.{lands-end, lands-out, lands-leaf, lands-short, lands-group, group-missed, group-struc, group-edt, group-other, data-suc, data-none, row-group}
+use Rattle.writer.proofs.LeafRows.{clash, LeafFound, leaf-found, leaf-right}
+use Rattle.writer.proofs.KindLaws.{edt-is}
+use Rattle.writer.proofs.Standing.{group-kind, leaf-parts, group-parts, join-leaf, join-group, none-stands}
+
+abbrev pub AllOk : List ℕ → ℕ → ℕ → ℕ → Type 0
+AllOk w R p e = (i : ℕ) → p ≤ i → i < e → rowOk w R i ≡ true
+
+-- ---- a group's row
+-- a row from 7 up that is in order
+record GroupOk (w : List ℕ) (p : ℕ) : Type 0 where
+  kind : Group
+  is : kindAt w p ≡ rowKind kind
+  landed : lands w (aAt w p) (p + 1) (p + 1 + bAt w p) ≡ true
+  rule : (c : Items) → edtRows w (p + 1) (p + 1 + bAt w p) ≡ edtRule c → properGroup kind c ≡ true
+
+land-either : (w : List ℕ) (n p e : ℕ) {X : Type 0} → (lands w n p e ≡ true → X) → (lands w n p e ≡ false → X) → X
+land-either w n p e {X} f g = go (lands w n p e) f g
+  where
+    go : (b : Bool) → (b ≡ true → X) → (b ≡ false → X) → X
+    go true f g = f refl
+    go false f g = g refl
+
+group-true : (w : List ℕ) (R p : ℕ) → bAt w p ≤ R - (p + 1) → groupOk w R p ≡ true → GroupOk w p
+unfolding rowKind properGroup
+group-true w R p s t =
+    land-either w (aAt w p) (p + 1) (p + 1 + bAt w p)
+    (λ l. split-eq (kindAt w p) 7 (λ k. record { kind = struc; is = k; landed = l; rule = λ c q. refl })
+    (λ n. split-eq (kindAt w p) 8 (λ k. record { kind = edt; is = k; landed = l; rule = λ c q. sym q ∙ sym (group-edt w R p s l k) ∙ t })
+    (λ m. clash (groupOk w R p) t (group-other w R p s l n m))))
+    (λ l. clash (groupOk w R p) t (group-missed w R p l))
+
+group-right : (w : List ℕ) (R p : ℕ) (g : Group) (c : Items) → kindAt w p ≡ rowKind g → bAt w p ≤ R - (p + 1) → lands w (aAt w p) (p + 1) (p + 1 + bAt w p) ≡ true →
+    edtRows w (p + 1) (p + 1 + bAt w p) ≡ edtRule c → properGroup g c ≡ true → groupOk w R p ≡ true
+unfolding rowKind properGroup
+group-right w R p struc c k s l q r = group-struc w R p s l k
+group-right w R p edt c k s l q r = group-edt w R p s l k ∙ q ∙ r
+
+-- ---- data words before a row
+data-mono : (w : List ℕ) (k p : ℕ) → dataTo w p ≤ dataTo w (p + k)
+data-mono w zero p = let e : p + 0 ≡ p = omega arith in rw e (omega arith)
+data-mono w (suc k) p =
+    let e : p + suc k ≡ p + k + 1 = omega arith in
+    rw (e, data-suc w (p + k)) (omega (arith, data-mono w k p))
+
+data-le : (w : List ℕ) (p q : ℕ) → p ≤ q → dataTo w p ≤ dataTo w q
+data-le w p q h = let e : p + (q - p) ≡ q = omega arith in rw e at (data-mono w (q - p) p)
+
+-- ---- rows in order are those of items
+pub record Found (w : List ℕ) (n p e : ℕ) : Type 0 where
+  pub items : Items
+  pub stands : Stands w (dataTo w p) p e items
+  pub number : count items ≡ n
+  pub many : dataTo w p + length (dataWords items) ≡ dataTo w e
+
+module _ (w : List ℕ) (R : ℕ) (few : R ≤ 16384) (little : getD w 3 0 ≤ 16384) (room : 3 * getD w 0 0 + 4 + getD w 3 0 ≤ length w) (fits : 3 * R + 4 ≤ length w) where
+  found-none : (n p e : ℕ) → p ≡ e → n ≡ 0 → e ≤ R → dataTo w e ≤ getD w 3 0 → Found w n p e
+  unfolding count dataWords
+  found-none n p e q z l d =
+      subst (λ (x : ℕ). Found w n p x) q
+      (let dp : dataTo w p ≤ getD w 3 0 = rw q d in
+      record { items = end; stands = none-stands w (dataTo w p) p (omega arith) (omega arith) (omega arith) (omega arith); number = sym z; many = omega arith })
+
+  found-leaf : (n p e : ℕ) → 0 < n → (l : LeafFound w (dataTo w p) p) → Found w (n - 1) (p + 1) e → Found w n p e
+  unfolding count dataWords
+  found-leaf n p e h l f =
+      let d : dataTo w (p + 1) ≡ dataTo w p + length (leafWords (l .item)) = data-suc w p ∙ ap (λ z. dataTo w p + z) (l .takes) in
+      let m = f .many in
+      let c = f .number in
+      record {
+        items = leaf (l .item) (f .items);
+        stands = join-leaf w (dataTo w p) p e (l .item) (f .items) (l .row) (rw d at (f .stands));
+        number = omega arith;
+        many = omega (arith, length-append (leafWords (l .item)) (dataWords (f .items)));
+      }
+
+  found-group : (n p e : ℕ) → 0 < n → (g : GroupOk w p) → Found w (aAt w p) (p + 1) (p + 1 + bAt w p) → Found w (n - 1) (p + 1 + bAt w p) e → Found w n p e
+  unfolding count dataWords
+  found-group n p e h g f a =
+      let c = f .items in
+      let k = g .is in
+      let d : dataTo w (p + 1) ≡ dataTo w p = data-suc w p ∙ ap (λ z. dataTo w p + z) (data-none w p (λ z. omega (arith, group-kind (g .kind)))) ∙ omega arith in
+      let b : bAt w p ≡ rows c = omega (arith, f .stands .number) in
+      let q : p + 1 + bAt w p ≡ p + 1 + rows c = omega arith in
+      let m : dataTo w (p + 1 + bAt w p) ≡ dataTo w p + length (dataWords c) = omega (arith, f .many) in
+      let s : Stands w (dataTo w p) (p + 1) (p + 1 + rows c) c = rw (d, q) at (f .stands) in
+      let t : Stands w (dataTo w p + length (dataWords c)) (p + 1 + rows c) e (a .items) = rw q at (rw m at (a .stands)) in
+      record {
+        items = group (g .kind) c (a .items);
+        stands = join-group w (dataTo w p) p e (g .kind) c (a .items) (record {
+          kind = k;
+          first = sym (f .number);
+          second = b;
+          good = g .rule c (edt-is w _ (p + 1) (p + 1 + bAt w p) c (f .stands));
+          inside = s;
+          after = t;
+        });
+        number = omega (arith, a .number);
+        many = omega (arith, a .many, length-append (dataWords c) (dataWords (a .items)));
+      }
+
+  pub sound : ((i : ℕ) → getD w i 0 < 2 ^ 64) → (m n p e : ℕ) → e - p ≤ m → p ≤ e → e ≤ R → lands w n p e ≡ true → AllOk w R p e → dataTo w e ≤ getD w 3 0 → Found w n p e
+  sound bound zero n p e h o l t ok d =
+      split-eq n 0 (λ z. found-none n p e (true-eq p e (sym (lands-end w e n p z) ∙ t)) z l d)
+      (λ z. clash _ t (lands-out w e n p (omega arith) (omega arith)))
+  sound bound (suc m) n p e h o l t ok d =
+      split-eq n 0 (λ z. found-none n p e (true-eq p e (sym (lands-end w e n p z) ∙ t)) z l d)
+      (λ z. split p e
+      (λ lt. split (kindAt w p) 7
+      (λ k.
+      let r : lands w (n - 1) (p + 1) e ≡ true = sym (lands-leaf w e n p (omega arith) lt k) ∙ t in
+      let q : dataTo w p ≤ getD w 3 0 = omega (arith, data-le w p e o) in
+      found-leaf n p e (omega arith)
+      (leaf-found w (dataTo w p) room little q R p (omega arith) k refl (ok p (omega arith) lt) bound)
+      (sound bound m (n - 1) (p + 1) e (omega arith) (omega arith) l r (λ i u v. ok i (omega arith) v) d))
+      (λ k. split (e - (p + 1)) (bAt w p) (λ s. clash _ t (lands-short w e n p (omega arith) k s))
+      (λ s.
+      let r : lands w (n - 1) (p + 1 + bAt w p) e ≡ true = sym (lands-group w e n p (omega arith) lt k s) ∙ t in
+      let g = group-true w R p (omega arith) (sym (row-group w R p k) ∙ ok p (omega arith) lt) in
+      let q : dataTo w (p + 1 + bAt w p) ≤ getD w 3 0 = omega (arith, data-le w (p + 1 + bAt w p) e (omega arith)) in
+      found-group n p e (omega arith) g
+      (sound bound m (aAt w p) (p + 1) (p + 1 + bAt w p) (omega arith) (omega arith) (omega arith) (g .landed) (λ i u v. ok i (omega arith) (omega arith)) q)
+      (sound bound m (n - 1) (p + 1 + bAt w p) e (omega arith) (omega arith) l r (λ i u v. ok i (omega arith) v) d))))
+      (λ ge. clash _ t (lands-out w e n p (omega arith) ge)))
+
+  -- ---- the rows of items are in order
+  first-ok : (p e : ℕ) → rowOk w R p ≡ true → AllOk w R (p + 1) e → AllOk w R p e
+  first-ok p e o f i h l = split p i (λ lt. f i (omega arith) l) (λ ge. let q : p ≡ i = omega arith in rw q at o)
+
+  joined-ok : (p q e : ℕ) → AllOk w R p q → AllOk w R q e → AllOk w R p e
+  joined-ok p q e f g i h l = split i q (λ lt. f i h lt) (λ ge. g i ge l)
+
+  pub record InOrder (d n p e : ℕ) (xs : Items) : Type 0 where
+    pub landed : lands w n p e ≡ true
+    pub each : AllOk w R p e
+    pub many : dataTo w e ≡ d + length (dataWords xs)
+
+  pub complete : (d p e : ℕ) (xs : Items) → Stands w d p e xs → d ≡ dataTo w p → e ≤ R → d + length (dataWords xs) ≤ getD w 3 0 → InOrder d (count xs) p e xs
+  unfolding count dataWords rows
+  complete d p e end s q l m =
+      let z : p ≡ e = omega (arith, s .number) in
+      record { landed = lands-end w e 0 p refl ∙ eq-true p e z; each = λ i u v. absurd (omega arith); many = rw (← z) (omega arith) }
+  complete d p e (leaf x xs) s q l m =
+      let k = leaf-parts w d p e x xs s in
+      let n = length-append (leafWords x) (dataWords xs) in
+      let h : p < e = omega (arith, s .number) in
+      let r = leaf-right w d room little (omega arith) R p x (k .0) q (omega arith) in
+      let f : d + length (leafWords x) ≡ dataTo w (p + 1) = sym (data-suc w p ∙ ap₂ _+_ (sym q) (r .1)) in
+      let j = complete (d + length (leafWords x)) (p + 1) e xs (k .1) f l (omega arith) in
+      let z : suc (count xs) - 1 ≡ count xs = omega arith in
+      record {
+        landed = lands-leaf w e (suc (count xs)) p (omega arith) h (omega (arith, k .0 .kind, leaf-kind x)) ∙ rw z (j .landed);
+        each = first-ok p e (r .0) (j .each);
+        many = j .many ∙ omega arith;
+      }
+  complete d p e (group g c xs) s q l m =
+      let k = group-parts w d p e g c xs s in
+      let n = length-append (dataWords c) (dataWords xs) in
+      let kk = k .kind in
+      let gk = group-kind g in
+      let i = k .inside .number in
+      let a = k .after .number in
+      let b = k .second in
+      let h : p < e = omega (arith, s .number) in
+      let pb : p + 1 + rows c ≡ p + 1 + bAt w p = omega arith in
+      let f : d ≡ dataTo w (p + 1) = q ∙ sym (data-suc w p ∙ ap (λ z. dataTo w p + z) (data-none w p (λ z. omega arith)) ∙ omega arith) in
+      let j = complete d (p + 1) (p + 1 + rows c) c (k .inside) f (omega arith) (omega arith) in
+      let o = complete (d + length (dataWords c)) (p + 1 + rows c) e xs (k .after) (sym (j .many)) l (omega arith) in
+      let z : suc (count xs) - 1 ≡ count xs = omega arith in
+      record {
+        landed = lands-group w e (suc (count xs)) p (omega arith) h (omega arith) (omega arith) ∙ rw (z, ← pb) (o .landed);
+        each = first-ok p e
+            (row-group w R p (omega arith) ∙ group-right w R p g c kk (omega arith) (rw (← pb, k .first) (j .landed)) (rw (← pb) (edt-is w d (p + 1) (p + 1 + rows c) c (k .inside))) (k .good))
+            (joined-ok (p + 1) (p + 1 + rows c) e (j .each) (o .each));
+        many = o .many ∙ omega arith;
+      }

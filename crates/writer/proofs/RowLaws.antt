@@ -1,0 +1,229 @@
+-- What the judge asks of single rows, step by step as the code asks it. Assumes nothing.
+use mathlib.Core.Path.{_≡_, refl, _∙_, ap}
+use mathlib.Core.List.{List}
+use mathlib.Core.Bool.{Bool, true, false}
+use Prim.Native.Nat.{ℕ, zero, suc, _+_, _-_, _*_, _/_, _%_, _^_, _<_, _≤_}
+use native.Mathlib.Omega.{arith}
+use native.Mathlib.Numerals.{add-one}
+use lib.ListN.{getD}
+use lib.Dec.{ltb, eqb}
+use Rattle.writer.specs.declared.judge.Judged.{Judged}
+use Rattle.writer.specs.declared.judge.Judged.the-variants.{Wrong, Right}
+use Rattle.format.specs.Choice.{ifEq, both}
+use Rattle.format.specs.Bits.{wordsFor}
+use Rattle.format.proofs.Choices.{ifLt-yes, ifLt-no, ifEq-yes, ifEq-no, lt-true, lt-false, eq-true, eq-false, byLt, split}
+use Rattle.writer.specs.Rows.{kindAt, aAt, bAt, lands, charsF, allChars, intAt, edtRows, groupOk, codes, plainOk, dataAt, dataTo, lastWord, bitsOk, rowOk, BitsJudged, RowJudged, PlainRows}
+
+-- ---- hopping over direct elements
+module _ (w : List ℕ) (e : ℕ) where
+  pub lands-end : (n p : ℕ) → n ≡ 0 → lands w n p e ≡ eqb p e
+  unfolding lands
+  lands-end n p z = rw z refl
+
+  pub lands-out : (n p : ℕ) → 0 < n → e ≤ p → lands w n p e ≡ false
+  unfolding lands
+  lands-out zero p h l = absurd (omega arith)
+  lands-out (suc n) p h l = ifLt-no p e _ _ l
+
+  pub lands-leaf : (n p : ℕ) → 0 < n → p < e → kindAt w p < 7 → lands w n p e ≡ lands w (n - 1) (p + 1) e
+  unfolding lands
+  lands-leaf zero p h l k = absurd (omega arith)
+  lands-leaf (suc n) p h l k =
+      let z : suc n - 1 ≡ n = omega arith in
+      rw z (ifLt-yes p e _ _ l ∙ ifLt-yes (kindAt w p) 7 _ _ k)
+
+  pub lands-short : (n p : ℕ) → 0 < n → 7 ≤ kindAt w p → e - (p + 1) < bAt w p → lands w n p e ≡ false
+  unfolding lands
+  lands-short zero p h k s = absurd (omega arith)
+  lands-short (suc n) p h k s =
+      byLt (λ b. b ≡ false) p e (λ l. ifLt-no (kindAt w p) 7 _ _ k ∙ ifLt-yes (e - (p + 1)) (bAt w p) _ _ s) (λ g. refl)
+
+  pub lands-group : (n p : ℕ) → 0 < n → p < e → 7 ≤ kindAt w p → bAt w p ≤ e - (p + 1) → lands w n p e ≡ lands w (n - 1) (p + 1 + bAt w p) e
+  unfolding lands
+  lands-group zero p h l k s = absurd (omega arith)
+  lands-group (suc n) p h l k s =
+      let z : suc n - 1 ≡ n = omega arith in
+      rw z (ifLt-yes p e _ _ l ∙ ifLt-no (kindAt w p) 7 _ _ k ∙ ifLt-no (e - (p + 1)) (bAt w p) _ _ s)
+
+-- ---- strings
+module _ (w : List ℕ) (p e : ℕ) where
+  pub chars-out : e ≤ p → allChars w p e ≡ true
+  unfolding allChars charsF
+  chars-out h = let z : e - p ≡ 0 = omega arith in rw z
+
+  pub chars-in : p < e → allChars w p e ≡ both (eqb (kindAt w p) 3) (allChars w (p + 1) e)
+  unfolding allChars charsF
+  chars-in h = let z : e - p ≡ suc (e - (p + 1)) = omega arith in rw z
+
+  pub chars-yes : p < e → kindAt w p ≡ 3 → allChars w p e ≡ allChars w (p + 1) e
+  unfolding both
+  chars-yes h k = chars-in h ∙ rw (eq-true (kindAt w p) 3 k) refl
+
+  pub chars-no : p < e → (kindAt w p ≡ 3 → ⊥) → allChars w p e ≡ false
+  unfolding both
+  chars-no h k = chars-in h ∙ rw (eq-false (kindAt w p) 3 k) refl
+
+  -- ---- the EDT rule
+  pub int-in : p < e → intAt w p e ≡ eqb (kindAt w p) 1
+  unfolding intAt both
+  int-in h = rw (lt-true p e h) refl
+
+  pub int-out : e ≤ p → intAt w p e ≡ false
+  unfolding intAt both
+  int-out h = rw (lt-false p e h) refl
+
+  pub edt-out : e ≤ p → edtRows w p e ≡ false
+  unfolding edtRows
+  edt-out h = ifLt-no p e _ _ h
+
+  pub edt-int : p < e → kindAt w p ≡ 1 → edtRows w p e ≡ intAt w (p + 1) e
+  unfolding edtRows
+  edt-int h k = ifLt-yes p e _ _ h ∙ ifEq-yes (kindAt w p) 1 _ _ k
+
+  pub edt-other : p < e → (kindAt w p ≡ 1 → ⊥) → (kindAt w p ≡ 7 → ⊥) → edtRows w p e ≡ false
+  unfolding edtRows
+  edt-other h j k = ifLt-yes p e _ _ h ∙ ifEq-no (kindAt w p) 1 _ _ j ∙ ifEq-no (kindAt w p) 7 _ _ k
+
+  pub edt-short : p < e → kindAt w p ≡ 7 → e - (p + 1) < bAt w p → edtRows w p e ≡ false
+  unfolding edtRows
+  edt-short h k s = ifLt-yes p e _ _ h ∙ ifEq-no (kindAt w p) 1 _ _ (λ z. omega arith) ∙ ifEq-yes (kindAt w p) 7 _ _ k ∙ ifLt-yes (e - (p + 1)) (bAt w p) _ _ s
+
+  pub edt-struc : p < e → kindAt w p ≡ 7 → bAt w p ≤ e - (p + 1) → edtRows w p e ≡ both (allChars w (p + 1) (p + 1 + bAt w p)) (intAt w (p + 1 + bAt w p) e)
+  unfolding edtRows
+  edt-struc h k s = ifLt-yes p e _ _ h ∙ ifEq-no (kindAt w p) 1 _ _ (λ z. omega arith) ∙ ifEq-yes (kindAt w p) 7 _ _ k ∙ ifLt-no (e - (p + 1)) (bAt w p) _ _ s
+
+-- a first test decides both
+pub both-yes : (a b : Bool) → a ≡ true → both a b ≡ b
+unfolding both
+both-yes a b e = rw e refl
+
+pub both-no : (a b : Bool) → a ≡ false → both a b ≡ false
+unfolding both
+both-no a b e = rw e refl
+
+-- ---- groups
+module _ (w : List ℕ) (R p : ℕ) where
+  pub group-short : R - (p + 1) < bAt w p → groupOk w R p ≡ false
+  unfolding groupOk
+  group-short s = ifLt-yes (R - (p + 1)) (bAt w p) _ _ s
+
+  pub group-missed : lands w (aAt w p) (p + 1) (p + 1 + bAt w p) ≡ false → groupOk w R p ≡ false
+  unfolding groupOk
+  group-missed m =
+      byLt (λ b. b ≡ false) (R - (p + 1)) (bAt w p) (λ l. refl) (λ g. both-no _ _ m)
+
+  landed : bAt w p ≤ R - (p + 1) → lands w (aAt w p) (p + 1) (p + 1 + bAt w p) ≡ true →
+      groupOk w R p ≡ ifEq (kindAt w p) 7 true (ifEq (kindAt w p) 8 (edtRows w (p + 1) (p + 1 + bAt w p)) false)
+  unfolding groupOk
+  landed s m = ifLt-no (R - (p + 1)) (bAt w p) _ _ s ∙ both-yes _ _ m
+
+  pub group-struc : bAt w p ≤ R - (p + 1) → lands w (aAt w p) (p + 1) (p + 1 + bAt w p) ≡ true → kindAt w p ≡ 7 → groupOk w R p ≡ true
+  group-struc s m k = landed s m ∙ ifEq-yes (kindAt w p) 7 _ _ k
+
+  pub group-edt : bAt w p ≤ R - (p + 1) → lands w (aAt w p) (p + 1) (p + 1 + bAt w p) ≡ true → kindAt w p ≡ 8 → groupOk w R p ≡ edtRows w (p + 1) (p + 1 + bAt w p)
+  group-edt s m k = landed s m ∙ ifEq-no (kindAt w p) 7 _ _ (λ z. omega arith) ∙ ifEq-yes (kindAt w p) 8 _ _ k
+
+  pub group-other : bAt w p ≤ R - (p + 1) → lands w (aAt w p) (p + 1) (p + 1 + bAt w p) ≡ true → (kindAt w p ≡ 7 → ⊥) → (kindAt w p ≡ 8 → ⊥) → groupOk w R p ≡ false
+  group-other s m j k = landed s m ∙ ifEq-no (kindAt w p) 7 _ _ j ∙ ifEq-no (kindAt w p) 8 _ _ k
+
+-- ---- rows with one number
+pub codes-other : (k : ℕ) → (k ≡ 1 → ⊥) → (k ≡ 3 → ⊥) → (k ≡ 4 → ⊥) → (k ≡ 5 → ⊥) → (k ≡ 6 → ⊥) → codes k ≡ 0
+unfolding codes
+codes-other k a c d e f = rw (ifEq-no k 1 _ _ a, ifEq-no k 3 _ _ c, ifEq-no k 4 _ _ d, ifEq-no k 5 _ _ e, ifEq-no k 6 _ _ f)
+
+pub plain-a : (k a b : ℕ) → (a ≡ 0 → ⊥) → plainOk k a b ≡ false
+unfolding plainOk
+plain-a k a b h = ifEq-no a 0 _ _ h
+
+pub plain-codes : (k a b : ℕ) → a ≡ 0 → plainOk k a b ≡ ltb b (codes k)
+unfolding plainOk
+plain-codes k a b h = ifEq-yes a 0 _ _ h
+
+pub plain-int : (k a b : ℕ) → a ≡ 0 → k ≡ 1 → b < 2 ^ 64 → plainOk k a b ≡ true
+unfolding codes
+plain-int k a b h e l = plain-codes k a b h ∙ rw (ifEq-yes k 1 (2 ^ 64) (ifEq k 3 128 (ifEq k 4 2 (ifEq k 5 1 (ifEq k 6 4 0)))) e) (lt-true b (2 ^ 64) l)
+
+-- ---- BITS
+module _ (w : List ℕ) (d a b : ℕ) where
+  pub bits-first : (b ≡ d → ⊥) → bitsOk w d a b ≡ false
+  unfolding bitsOk
+  bits-first h = ifEq-no b d _ _ h
+
+  pub bits-long : b ≡ d → 64 * (getD w 3 0 - d) < a → bitsOk w d a b ≡ false
+  unfolding bitsOk
+  bits-long h l = ifEq-yes b d _ _ h ∙ ifLt-yes (64 * (getD w 3 0 - d)) a _ _ l
+
+  pub bits-spare : b ≡ d → a ≤ 64 * (getD w 3 0 - d) → bitsOk w d a b ≡ eqb (lastWord w d a % 2 ^ (64 * wordsFor a - a)) 0
+  unfolding bitsOk
+  bits-spare h l = ifEq-yes b d _ _ h ∙ ifLt-no (64 * (getD w 3 0 - d)) a _ _ l
+
+-- ---- any row
+pub data-suc : (w : List ℕ) (p : ℕ) → dataTo w (p + 1) ≡ dataTo w p + dataAt w p
+unfolding dataTo
+data-suc w p = rw (add-one p) refl
+
+pub data-bits : (w : List ℕ) (p : ℕ) → kindAt w p ≡ 2 → dataAt w p ≡ wordsFor (aAt w p)
+unfolding dataAt
+data-bits w p k = ifEq-yes (kindAt w p) 2 _ _ k
+
+pub data-none : (w : List ℕ) (p : ℕ) → (kindAt w p ≡ 2 → ⊥) → dataAt w p ≡ 0
+unfolding dataAt
+data-none w p k = ifEq-no (kindAt w p) 2 _ _ k
+
+module _ (w : List ℕ) (R p : ℕ) where
+  pub row-group : 7 ≤ kindAt w p → rowOk w R p ≡ groupOk w R p
+  unfolding rowOk
+  row-group g = ifLt-no (kindAt w p) 7 _ _ g
+
+  pub row-bits : kindAt w p ≡ 2 → rowOk w R p ≡ bitsOk w (dataTo w p) (aAt w p) (bAt w p)
+  unfolding rowOk
+  row-bits k = ifLt-yes (kindAt w p) 7 _ _ (omega arith) ∙ ifEq-yes (kindAt w p) 2 _ _ k
+
+  pub row-plain : kindAt w p < 7 → (kindAt w p ≡ 2 → ⊥) → rowOk w R p ≡ plainOk (kindAt w p) (aAt w p) (bAt w p)
+  unfolding rowOk
+  row-plain l k = ifLt-yes (kindAt w p) 7 _ _ l ∙ ifEq-no (kindAt w p) 2 _ _ k
+
+  -- a right row that takes no data words
+  pub right-none : (D d : ℕ) → rowOk w R p ≡ true → (kindAt w p ≡ 2 → ⊥) → d ≡ dataTo w p → d ≤ D → RowJudged w p R D d (Right 0)
+  right-none D d t k e l = (t, omega arith, rw (data-suc w p, data-none w p k) (omega arith))
+
+  pub bits-judged : (D d : ℕ) (r : Judged) → kindAt w p ≡ 2 → d ≡ dataTo w p → BitsJudged w d (aAt w p) (bAt w p) D r → RowJudged w p R D d r
+  bits-judged D d Wrong k e j = row-bits k ∙ (rw e at j)
+  bits-judged D d (Right n) k e j = (row-bits k ∙ (rw e at (j .0)), j .1, rw (data-suc w p, data-bits w p k, j .2, e) refl)
+
+pub last-is : (w : List ℕ) (r d n : ℕ) → r ≡ getD w 0 0 → getD w (3 * r + 3 + d + (n + 63) / 64) 0 ≡ lastWord w d n
+unfolding lastWord wordsFor
+last-is w r d n e = rw e refl
+
+-- ---- a stretch of rows with no data words
+pub plain-starts : (w : List ℕ) (R p : ℕ) → p ≤ R → PlainRows w R p p
+plain-starts w R p h = record { start = omega arith; within = h; each = λ i u v. absurd (omega arith); none = refl }
+
+plain-on : (w : List ℕ) (R p q : ℕ) → PlainRows w R p q → q < R → (kindAt w q ≡ 2 → ⊥) → rowOk w R q ≡ true → PlainRows w R p (q + 1)
+plain-on w R p q s h k t =
+    let a = s .start in
+    record {
+      start = omega arith;
+      within = omega arith;
+      each = λ i u v. split i q (λ l. s .each i u l) (λ g. let e : q ≡ i = omega arith in rw e at t);
+      none = data-suc w q ∙ ap (λ z. dataTo w q + z) (data-none w q k) ∙ omega (arith, s .none);
+    }
+
+pub int-on : (w : List ℕ) (R p q : ℕ) → PlainRows w R p q → q < R → aAt w q ≡ 0 → kindAt w q ≡ 1 → bAt w q < 2 ^ 64 → PlainRows w R p (q + 1)
+int-on w R p q s h a k b =
+    plain-on w R p q s h (λ z. omega arith) (row-plain w R q (omega arith) (λ z. omega arith) ∙ plain-int (kindAt w q) (aAt w q) (bAt w q) a k b)
+
+pub char-on : (w : List ℕ) (R p q : ℕ) → PlainRows w R p q → q < R → aAt w q ≡ 0 → kindAt w q ≡ 3 → bAt w q < 128 → PlainRows w R p (q + 1)
+unfolding codes
+char-on w R p q s h a k b =
+    plain-on w R p q s h (λ z. omega arith)
+    (row-plain w R q (omega arith) (λ z. omega arith) ∙ plain-codes (kindAt w q) (aAt w q) (bAt w q) a
+    ∙ ap (λ j. ltb (bAt w q) (codes j)) k ∙ lt-true (bAt w q) 128 b)
+
+-- rows in order up to p, and a stretch from there
+pub all-on : (w : List ℕ) (R p q : ℕ) → ((i : ℕ) → i < p → rowOk w R i ≡ true) → PlainRows w R p q → (i : ℕ) → i < q → rowOk w R i ≡ true
+all-on w R p q f s i h = split i p (λ l. f i l) (λ g. s .each i g h)
+
+-- and one row more
+pub row-on : (w : List ℕ) (R q : ℕ) → ((i : ℕ) → i < q → rowOk w R i ≡ true) → rowOk w R q ≡ true → (i : ℕ) → i < q + 1 → rowOk w R i ≡ true
+row-on w R q f t i h = split i q (λ l. f i l) (λ g. let e : q ≡ i = omega arith in rw e at t)

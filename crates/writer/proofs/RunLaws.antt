@@ -1,0 +1,211 @@
+-- A run of rows one item on, and how long its normal form can be. Assumes nothing.
+use mathlib.Core.Path.{_≡_, refl, sym, _∙_, ap, ap₂, subst}
+use mathlib.Core.List.{List, _∷_, _++_}
+use mathlib.Core.Bool.{Bool, true}
+use Prim.Native.Nat.{ℕ, suc, _+_, _*_, _^_, _<_, _≤_, max}
+use native.Mathlib.Omega.{arith}
+use lib.ListN.{length, length-append}
+use lib.IntN.{ℤ, pos, negsuc}
+use lib.Signed.{mag}
+use Rattle.writer.specs.declared.measure.Measured.the-variants.{Deep, Length}
+use Rattle.format.specs.Choice.{both}
+use Rattle.format.specs.Numbers.{be, width, twos}
+use Rattle.format.specs.Bits.{num, packed, bytesFor, wordsFor}
+use Rattle.format.specs.Items.{Leaf, int, bits, char, bool, empty, xtra, Group, Items, end, leaf, group, properLeaf, properGroup, proper}
+use Rattle.format.specs.Tables.{rows, leafWords, dataWords, rowKind}
+use Rattle.format.specs.Normal.{normalSize, withSize, linteger, normalInt, sbitstr, normalBits, normalLeaf, normal, depth}
+use Rattle.format.proofs.Choices.{split, byLt, ifLt-yes, ifLt-no, true-lt, both-left, both-right}
+use Rattle.format.proofs.Digits.{be-length, width-least}
+use Rattle.format.proofs.BitLaws.{packed-length}
+use Rattle.format.proofs.Marker.{marker-lt}
+use Rattle.format.proofs.TableLaws.{leaf-kind}
+use Rattle.writer.specs.Rows.{kindAt, bAt, Stands, itemsAt, Run, LeafRow, leafAt, LeafAt}
+use Rattle.writer.specs.Measures.{measured, boxed}
+use Rattle.writer.proofs.NumberLaws.{size-short}
+use Rattle.writer.proofs.Standing.{group-kind, leaf-parts, group-parts, stands-is, run-of, leaf-is}
+
+-- ---- one item on
+pub record LeafStep (w : List ℕ) (p e : ℕ) : Type 0 where
+  pub here : LeafAt w p
+  pub next : Run w (p + 1) e
+  pub is : itemsAt w p e ≡ leaf (leafAt w p) (itemsAt w (p + 1) e)
+
+pub record GroupStep (w : List ℕ) (p e : ℕ) : Type 0 where
+  pub kind : Group
+  pub row : kindAt w p ≡ rowKind kind
+  pub within : p + 1 + bAt w p ≤ e
+  pub inside : Run w (p + 1) (p + 1 + bAt w p)
+  pub next : Run w (p + 1 + bAt w p) e
+  pub is : itemsAt w p e ≡ group kind (itemsAt w (p + 1) (p + 1 + bAt w p)) (itemsAt w (p + 1 + bAt w p) e)
+
+module _ (w : List ℕ) (p e : ℕ) where
+  step-leaf : (d : ℕ) (xs : Items) → itemsAt w p e ≡ xs → Stands w d p e xs → p < e → kindAt w p < 7 → LeafStep w p e
+  unfolding rows
+  step-leaf d end q s h k = absurd (omega (arith, s .number))
+  step-leaf d (group g c xs) q s h k = absurd (omega (arith, group-parts w d p e g c xs s .kind, group-kind g))
+  step-leaf d (leaf l xs) q s h k =
+      let r = leaf-parts w d p e l xs s in
+      let i = leaf-is w d p e l (r .0) in
+      record {
+        here = record { before = d; row = subst (λ (x : Leaf). LeafRow w d p x) (sym i) (r .0) };
+        next = run-of w _ (p + 1) e xs (r .1);
+        is = q ∙ ap₂ leaf (sym i) (sym (stands-is w _ (p + 1) e xs (r .1)));
+      }
+
+  step-group : (d : ℕ) (xs : Items) → itemsAt w p e ≡ xs → Stands w d p e xs → p < e → 7 ≤ kindAt w p → GroupStep w p e
+  unfolding rows
+  step-group d end q s h k = absurd (omega (arith, s .number))
+  step-group d (leaf l xs) q s h k = absurd (omega (arith, leaf-parts w d p e l xs s .0 .kind, leaf-kind l))
+  step-group d (group g c xs) q s h k =
+      let r = group-parts w d p e g c xs s in
+      let b = r .second in
+      let n = r .after .number in
+      let z : p + 1 + rows c ≡ p + 1 + bAt w p = omega arith in
+      let a : Stands w d (p + 1) (p + 1 + bAt w p) c = rw z at (r .inside) in
+      let t : Stands w (d + length (dataWords c)) (p + 1 + bAt w p) e xs = rw z at (r .after) in
+      record {
+        kind = g;
+        row = r .kind;
+        within = omega arith;
+        inside = run-of w d (p + 1) (p + 1 + bAt w p) c a;
+        next = run-of w _ (p + 1 + bAt w p) e xs t;
+        is = q ∙ ap₂ (group g) (sym (stands-is w d (p + 1) (p + 1 + bAt w p) c a)) (sym (stands-is w _ (p + 1 + bAt w p) e xs t));
+      }
+
+  pub leaf-step : Run w p e → p < e → kindAt w p < 7 → LeafStep w p e
+  leaf-step r h k = step-leaf (r .before) (itemsAt w p e) refl (r .stands) h k
+
+  pub group-step : Run w p e → p < e → 7 ≤ kindAt w p → GroupStep w p e
+  group-step r h k = step-group (r .before) (itemsAt w p e) refl (r .stands) h k
+
+  pub run-end : Run w p e → e ≤ p → itemsAt w p e ≡ end
+  run-end r h = go (itemsAt w p e) (r .stands)
+    where
+      go : (xs : Items) → Stands w (r .before) p e xs → xs ≡ end
+      go end s = refl
+      go (leaf l xs) s = absurd (unfold rows in omega (arith, s .number))
+      go (group g c xs) s = absurd (unfold rows in omega (arith, s .number))
+
+-- ---- how long a normal form can be
+int-bound : (z : ℤ) → mag z < 2 ^ 63 → length (normalInt z) ≤ 9
+unfolding normalInt linteger
+int-bound (pos n) h =
+    let k = width-least (2 * n) 8 (omega arith) (omega arith) in
+    split n 64 (λ l. let e : length (normalInt (pos n)) ≡ 1 = ap length (ifLt-yes n 64 _ _ l) in omega arith)
+    (λ g.
+    let e : length (normalInt (pos n)) ≡ suc (length (be (width (2 * n)) (twos (width (2 * n)) (pos n)))) = ap length (ifLt-no n 64 _ _ g) in
+    omega (arith, be-length (width (2 * n)) (twos (width (2 * n)) (pos n))))
+int-bound (negsuc n) h =
+    let k = width-least (2 * n) 8 (omega arith) (omega arith) in
+    omega (arith, be-length (width (2 * n)) (twos (width (2 * n)) (negsuc n)))
+
+bits-bound : (bs : List Bool) → wordsFor (length bs) ≤ 16384 → length (normalBits bs) ≤ 20 + 8 * wordsFor (length bs)
+unfolding normalBits sbitstr withSize bytesFor wordsFor
+bits-bound bs h =
+    split (length bs) 64
+    (λ l.
+    let v : ℕ = num (true ∷ bs) in
+    let m : v < 256 ^ 8 = omega (arith, marker-lt bs, lib.Pow.pow-mono {i = suc (length bs)} {j = 64} (omega arith)) in
+    let e : length (normalBits bs) ≡ suc (length (be (width v) v)) = ap length (ifLt-yes (length bs) 64 _ _ l) in
+    omega (arith, be-length (width v) v, width-least v 8 (omega arith) m))
+    (λ g.
+    let i : List ℕ = normalInt (pos (length bs)) in
+    let y : List ℕ = packed 8 (bytesFor (length bs)) bs in
+    let a = int-bound (pos (length bs)) (omega arith) in
+    let n : length (i ++ y) ≡ length i + bytesFor (length bs) = length-append i y ∙ ap (λ z. length i + z) (packed-length 8 (bytesFor (length bs)) bs) in
+    let e : length (normalBits bs) ≡ suc (length (normalSize (length (i ++ y)) ++ (i ++ y))) = ap length (ifLt-no (length bs) 64 _ _ g) in
+    omega (arith, length-append (normalSize (length (i ++ y))) (i ++ y), size-short (length (i ++ y)) (omega arith)))
+
+leaf-bound : (l : Leaf) → properLeaf l ≡ true → length (leafWords l) ≤ 16384 → length (normalLeaf l) ≤ 20 + 8 * length (leafWords l)
+unfolding normalLeaf leafWords properLeaf
+leaf-bound (int z) p h = omega (arith, int-bound z (true-lt (mag z) (2 ^ 63) p))
+leaf-bound (bits bs) p h =
+    let n = packed-length 64 (wordsFor (length bs)) bs in
+    omega (arith, bits-bound bs (omega arith))
+leaf-bound (char c) p h = omega arith
+leaf-bound (bool b) p h = omega arith
+leaf-bound empty p h = omega arith
+leaf-bound (xtra n) p h = omega arith
+
+normal-bound : (xs : Items) → proper xs ≡ true → rows xs ≤ 16384 → length (dataWords xs) ≤ 16384 → length (normal xs) ≤ 20 * rows xs + 8 * length (dataWords xs)
+unfolding normal rows dataWords proper withSize
+normal-bound end p r d = omega arith
+normal-bound (leaf l xs) p r d =
+    let n = length-append (leafWords l) (dataWords xs) in
+    let a = leaf-bound l (both-left (properLeaf l) (proper xs) p) (omega arith) in
+    let b = normal-bound xs (both-right (properLeaf l) (proper xs) p) (omega arith) (omega arith) in
+    omega (arith, length-append (normalLeaf l) (normal xs))
+normal-bound (group g c xs) p r d =
+    let n = length-append (dataWords c) (dataWords xs) in
+    let q = both-right (properGroup g c) (both (proper c) (proper xs)) p in
+    let a = normal-bound c (both-left (proper c) (proper xs) q) (omega arith) (omega arith) in
+    let b = normal-bound xs (both-right (proper c) (proper xs) q) (omega arith) (omega arith) in
+    let s = size-short (length (normal c)) (omega arith) in
+    omega (arith, length-append (normalSize (length (normal c)) ++ normal c) (normal xs), length-append (normalSize (length (normal c))) (normal c))
+
+pub run-bound : (w : List ℕ) (p e : ℕ) → Run w p e → length (normal (itemsAt w p e)) ≤ 458752
+run-bound w p e r =
+    let s = r .stands in
+    let n = s .number in
+    let f = s .few in
+    let l = s .little in
+    omega (arith, normal-bound (itemsAt w p e) (s .good) (omega arith) (omega arith))
+
+-- ---- the length of one item, then of the rest
+pub box-length : (c : Items) → 1 + length (withSize (normal c)) ≡ 1 + length (normalSize (length (normal c))) + length (normal c)
+unfolding withSize
+box-length c = omega (arith, length-append (normalSize (length (normal c))) (normal c))
+
+module _ (w : List ℕ) (p e : ℕ) where
+  pub leaf-adds : (s : LeafStep w p e) → (length (normal (itemsAt w p e)) ≡ length (normalLeaf (leafAt w p)) + length (normal (itemsAt w (p + 1) e)))
+      × (depth (itemsAt w p e) ≡ depth (itemsAt w (p + 1) e))
+  unfolding normal depth
+  leaf-adds s = rw (s .is) (length-append (normalLeaf (leafAt w p)) (normal (itemsAt w (p + 1) e)), refl)
+
+  pub group-adds : (s : GroupStep w p e) →
+      (length (normal (itemsAt w p e)) ≡ 1 + length (withSize (normal (itemsAt w (p + 1) (p + 1 + bAt w p)))) + length (normal (itemsAt w (p + 1 + bAt w p) e)))
+      × (depth (itemsAt w p e) ≡ max (suc (depth (itemsAt w (p + 1) (p + 1 + bAt w p)))) (depth (itemsAt w (p + 1 + bAt w p) e)))
+  unfolding normal depth
+  group-adds s =
+      rw (s .is)
+      (omega (arith, length-append (withSize (normal (itemsAt w (p + 1) (p + 1 + bAt w p)))) (normal (itemsAt w (p + 1 + bAt w p) e))), refl)
+
+-- ---- what one row's item adds to a normal form
+pub leaf-normal : (w : List ℕ) (p e : ℕ) → LeafStep w p e → normal (itemsAt w p e) ≡ normalLeaf (leafAt w p) ++ normal (itemsAt w (p + 1) e)
+unfolding normal
+leaf-normal w p e s = ap normal (s .is)
+
+-- ---- measured, case by case
+pub measured-deep : (d : ℕ) (xs : Items) → d < depth xs → Deep ≡ measured d xs
+unfolding measured
+measured-deep d xs h = sym (ifLt-yes d (depth xs) _ _ h)
+
+pub measured-length : (d n : ℕ) (xs : Items) → depth xs ≤ d → n ≡ length (normal xs) → Length n ≡ measured d xs
+unfolding measured
+measured-length d n xs h e = ap Length e ∙ sym (ifLt-no d (depth xs) _ _ h)
+
+pub is-deep : (d : ℕ) (xs : Items) → Deep ≡ measured d xs → d < depth xs
+unfolding measured
+is-deep d xs = byLt (λ m. Deep ≡ m → d < depth xs) d (depth xs) (λ l e. l) (λ g e. let z : _≡_ {A = ℕ} 0 1 = cc in absurd (omega arith))
+
+pub is-length : (d n : ℕ) (xs : Items) → Length n ≡ measured d xs → (depth xs ≤ d) × (n ≡ length (normal xs))
+unfolding measured
+is-length d n xs =
+    byLt (λ m. Length n ≡ m → (depth xs ≤ d) × (n ≡ length (normal xs))) d (depth xs) (λ l e. let z : _≡_ {A = ℕ} 0 1 = cc in absurd (omega arith)) (λ g e. (g, cc))
+
+pub box-deep : (d : ℕ) (c : Items) → d < suc (depth c) → Deep ≡ boxed d c
+unfolding boxed
+box-deep d c h = sym (ifLt-yes d (suc (depth c)) _ _ h)
+
+pub box-fits : (d n : ℕ) (c : Items) → suc (depth c) ≤ d → n ≡ 1 + length (withSize (normal c)) → Length n ≡ boxed d c
+unfolding boxed
+box-fits d n c h e = ap Length e ∙ sym (ifLt-no d (suc (depth c)) _ _ h)
+
+pub is-box-deep : (d : ℕ) (c : Items) → Deep ≡ boxed d c → d < suc (depth c)
+unfolding boxed
+is-box-deep d c = byLt (λ m. Deep ≡ m → d < suc (depth c)) d (suc (depth c)) (λ l e. l) (λ g e. let z : _≡_ {A = ℕ} 0 1 = cc in absurd (omega arith))
+
+pub is-box-length : (d n : ℕ) (c : Items) → Length n ≡ boxed d c → (suc (depth c) ≤ d) × (n ≡ 1 + length (withSize (normal c)))
+unfolding boxed
+is-box-length d n c =
+    byLt (λ m. Length n ≡ m → (suc (depth c) ≤ d) × (n ≡ 1 + length (withSize (normal c)))) d (suc (depth c)) (λ l e. let z : _≡_ {A = ℕ} 0 1 = cc in absurd (omega arith)) (λ g e. (g, cc))

@@ -1,0 +1,219 @@
+-- What stands in a run of rows: the parts of it, what parts join to, and that the rows claim just that. Assumes nothing.
+use mathlib.Core.Path.{_≡_, refl, sym, _∙_, ap, subst}
+use mathlib.Core.List.{List, _∷_, _++_, append-assoc}
+use mathlib.Core.Bool.{true}
+use Prim.Native.Nat.{ℕ, suc, _+_, _-_, _*_, _≤_}
+use native.Mathlib.Omega.{arith}
+use lib.ListN.{length, take, drop, getD, length-append}
+use lib.Seq.{drop-cons, drop-drop, getD-drop, drop-at, take-at}
+use Rattle.format.specs.Items.{Leaf, Group, struc, edt, Items, end, leaf, group, leafKind, properLeaf, properGroup, proper}
+use Rattle.format.specs.Choice.{both}
+use Rattle.format.specs.Tables.{count, rows, leafA, leafB, leafWords, dataWords, rowKind, rowWords, claimed}
+use Rattle.format.proofs.Choices.{both-left, both-right, both-true}
+use Rattle.format.proofs.TableLaws.{row-length, rows-back, leaf-back}
+use Rattle.writer.specs.Rows.{kindAt, aAt, bAt, dataOf, Stands, itemsAt, Run, LeafRow, leafAt}
+
+-- a group's kind is none of a leaf's
+pub group-kind : (g : Group) → 7 ≤ rowKind g
+unfolding rowKind
+group-kind struc = omega arith
+group-kind edt = omega arith
+
+abbrev pub from : List ℕ → ℕ → List ℕ
+from w p = drop (3 * p + 4) w
+
+pub row-words : (w : List ℕ) (p : ℕ) → 3 * p + 7 ≤ length w → from w p ≡ kindAt w p ∷ aAt w p ∷ bAt w p ∷ from w (p + 1)
+row-words w p h =
+    let e : 3 * (p + 1) + 4 ≡ suc (3 * p + 6) = omega arith in
+    let f : 3 * p + 6 ≡ suc (3 * p + 5) = omega arith in
+    let g : 3 * p + 5 ≡ suc (3 * p + 4) = omega arith in
+    rw e
+    (drop-cons w (3 * p + 4) 0 (omega arith)
+    ∙ ap (λ z. getD w (3 * p + 4) 0 ∷ z)
+    (ap (λ q. drop q w) (sym g) ∙ drop-cons w (3 * p + 5) 0 (omega arith)
+    ∙ ap (λ z. getD w (3 * p + 5) 0 ∷ z) (ap (λ q. drop q w) (sym f) ∙ drop-cons w (3 * p + 6) 0 (omega arith))))
+
+record RowIs (w : List ℕ) (p k a b : ℕ) (l : List ℕ) : Type 0 where
+  kind : kindAt w p ≡ k
+  first : aAt w p ≡ a
+  second : bAt w p ≡ b
+  after : from w (p + 1) ≡ l
+
+row-is : (w : List ℕ) (p k a b : ℕ) (l : List ℕ) → from w p ≡ k ∷ a ∷ b ∷ l → RowIs w p k a b l
+row-is w p k a b l f =
+    let at : (i j : ℕ) → i ≡ 3 * p + 4 + j → getD w i 0 ≡ getD (k ∷ a ∷ b ∷ l) j 0 =
+    λ i j e. ap (λ z. getD w z 0) e ∙ sym (getD-drop (3 * p + 4) w j 0) ∙ ap (λ z. getD z j 0) f in
+    let q : 3 * (p + 1) + 4 ≡ 3 * p + 4 + 3 = omega arith in
+    record {
+      kind = at (3 * p + 4) 0 (omega arith);
+      first = at (3 * p + 5) 1 (omega arith);
+      second = at (3 * p + 6) 2 (omega arith);
+      after = rw q (sym (drop-drop 3 (3 * p + 4) w) ∙ ap (drop 3) f);
+    }
+
+-- ---- data words in two parts
+data-parts : (a b ds : List ℕ) (d : ℕ) → drop d ds ≡ (a ++ b) ++ drop (d + length (a ++ b)) ds →
+    (drop d ds ≡ a ++ drop (d + length a) ds) × (drop (d + length a) ds ≡ b ++ drop (d + length a + length b) ds)
+data-parts a b ds d h =
+    let n : d + length (a ++ b) ≡ d + length a + length b = omega (arith, length-append a b) in
+    let m : List ℕ = drop (d + length a + length b) ds in
+    let e : drop d ds ≡ a ++ (b ++ m) = h ∙ ap (λ z. (a ++ b) ++ drop z ds) n ∙ append-assoc a b m in
+    let f : drop (d + length a) ds ≡ b ++ m = sym (drop-drop (length a) d ds) ∙ ap (drop (length a)) e ∙ drop-at a (b ++ m) (length a) refl in
+    (e ∙ ap (λ z. a ++ z) (sym f), f)
+
+data-join : (a b ds : List ℕ) (d : ℕ) → drop d ds ≡ a ++ drop (d + length a) ds → drop (d + length a) ds ≡ b ++ drop (d + length a + length b) ds →
+    drop d ds ≡ (a ++ b) ++ drop (d + length (a ++ b)) ds
+data-join a b ds d h g =
+    let n : d + length (a ++ b) ≡ d + length a + length b = omega (arith, length-append a b) in
+    let m : List ℕ = drop (d + length a + length b) ds in
+    h ∙ ap (λ z. a ++ z) g ∙ sym (append-assoc a b m) ∙ ap (λ z. (a ++ b) ++ drop z ds) (sym n)
+
+-- ---- taking a run apart
+module _ (w : List ℕ) (d p e : ℕ) where
+  pub leaf-parts : (l : Leaf) (xs : Items) → Stands w d p e (leaf l xs) → LeafRow w d p l × Stands w (d + length (leafWords l)) (p + 1) e xs
+  unfolding rows rowWords dataWords proper
+  leaf-parts l xs s =
+      let r = row-is w p _ _ _ _ (s .words) in
+      let c = data-parts (leafWords l) (dataWords xs) (dataOf w) d (s .contents) in
+      let n = length-append (leafWords l) (dataWords xs) in
+      let m = s .number in
+      let i = s .within in
+      let f = s .few in
+      let j = s .little in
+      let k = s .stored in (
+        record {
+          kind = r .kind;
+          a = r .first;
+          b = r .second;
+          good = both-left (properLeaf l) (proper xs) (s .good);
+          contents = c .0;
+          within = omega arith;
+          stored = omega arith;
+          little = omega arith;
+        },
+        record {
+          number = omega arith;
+          words = r .after;
+          contents = c .1;
+          good = both-right (properLeaf l) (proper xs) (s .good);
+          within = i;
+          few = f;
+          little = omega arith;
+          stored = omega arith;
+        },
+      )
+
+  pub record GroupParts (g : Group) (c xs : Items) : Type 0 where
+    pub kind : kindAt w p ≡ rowKind g
+    pub first : aAt w p ≡ count c
+    pub second : bAt w p ≡ rows c
+    pub good : properGroup g c ≡ true
+    pub inside : Stands w d (p + 1) (p + 1 + rows c) c
+    pub after : Stands w (d + length (dataWords c)) (p + 1 + rows c) e xs
+
+  pub group-parts : (g : Group) (c xs : Items) → Stands w d p e (group g c xs) → GroupParts g c xs
+  unfolding rows rowWords dataWords proper
+  group-parts g c xs s =
+      let r = row-is w p _ _ _ _ (s .words) in
+      let k = data-parts (dataWords c) (dataWords xs) (dataOf w) d (s .contents) in
+      let n = length-append (dataWords c) (dataWords xs) in
+      let q = both-right (properGroup g c) (both (proper c) (proper xs)) (s .good) in
+      let t : List ℕ = rowWords (d + length (dataWords c)) xs ++ from w e in
+      let u : from w (p + 1) ≡ rowWords d c ++ t = r .after ∙ append-assoc (rowWords d c) (rowWords (d + length (dataWords c)) xs) (from w e) in
+      let i : 3 * (p + 1 + rows c) + 4 ≡ 3 * (p + 1) + 4 + 3 * rows c = omega arith in
+      let v : from w (p + 1 + rows c) ≡ t = ap (λ z. drop z w) i ∙ sym (drop-drop (3 * rows c) (3 * (p + 1) + 4) w) ∙ ap (drop (3 * rows c)) u ∙ drop-at (rowWords d c) t (3 * rows c) (row-length d c) in
+      let m = s .number in
+      let f = s .few in
+      let j = s .little in
+      let o = s .stored in
+      let h = s .within in
+      record {
+        kind = r .kind;
+        first = r .first;
+        second = r .second;
+        good = both-left (properGroup g c) (both (proper c) (proper xs)) (s .good);
+        inside = record {
+          number = omega arith;
+          words = u ∙ ap (λ z. rowWords d c ++ z) (sym v);
+          contents = k .0;
+          good = both-left (proper c) (proper xs) q;
+          within = omega arith;
+          few = omega arith;
+          little = omega arith;
+          stored = omega arith;
+        };
+        after = record {
+          number = omega arith;
+          words = v;
+          contents = k .1;
+          good = both-right (proper c) (proper xs) q;
+          within = h;
+          few = f;
+          little = omega arith;
+          stored = omega arith;
+        };
+      }
+
+  -- ---- putting a run together
+  pub join-leaf : (l : Leaf) (xs : Items) → LeafRow w d p l → Stands w (d + length (leafWords l)) (p + 1) e xs → Stands w d p e (leaf l xs)
+  unfolding rows rowWords dataWords proper
+  join-leaf l xs r s =
+      let n = length-append (leafWords l) (dataWords xs) in
+      let m = s .number in
+      let j = s .little in
+      let o = s .stored in
+      record {
+        number = omega arith;
+        words = row-words w p (r .within) ∙ rw (r .kind, r .a, r .b) (ap (λ z. leafKind l ∷ leafA l ∷ leafB d l ∷ z) (s .words));
+        contents = data-join (leafWords l) (dataWords xs) (dataOf w) d (r .contents) (s .contents);
+        good = both-true (properLeaf l) (proper xs) (r .good) (s .good);
+        within = s .within;
+        few = s .few;
+        little = omega arith;
+        stored = omega arith;
+      }
+
+  pub join-group : (g : Group) (c xs : Items) → GroupParts g c xs → Stands w d p e (group g c xs)
+  unfolding rows rowWords dataWords proper
+  join-group g c xs r =
+      let s = r .inside in
+      let t = r .after in
+      let n = length-append (dataWords c) (dataWords xs) in
+      let m = s .number in
+      let i = t .number in
+      let h = s .within in
+      let j = t .little in
+      let o = t .stored in
+      record {
+        number = omega arith;
+        words = row-words w p (omega arith) ∙ rw (r .kind, r .first, r .second)
+            (ap (λ z. rowKind g ∷ count c ∷ rows c ∷ z) (s .words ∙ ap (λ z. rowWords d c ++ z) (t .words) ∙ sym (append-assoc (rowWords d c) (rowWords (d + length (dataWords c)) xs) (from w e))));
+        contents = data-join (dataWords c) (dataWords xs) (dataOf w) d (s .contents) (t .contents);
+        good = both-true (properGroup g c) (both (proper c) (proper xs)) (r .good) (both-true (proper c) (proper xs) (s .good) (t .good));
+        within = t .within;
+        few = t .few;
+        little = omega arith;
+        stored = omega arith;
+      }
+
+  -- ---- what stands there is what the rows claim
+  pub stands-is : (xs : Items) → Stands w d p e xs → itemsAt w p e ≡ xs
+  unfolding itemsAt
+  stands-is xs s =
+      let n : e - p ≡ rows xs = omega (arith, s .number) in
+      let t : take (3 * rows xs) (from w p) ≡ rowWords d xs = ap (take (3 * rows xs)) (s .words) ∙ take-at (rowWords d xs) (from w e) (3 * rows xs) (row-length d xs) in
+      ap (λ z. claimed z (take (3 * z) (from w p)) (dataOf w)) n ∙ ap (λ z. claimed (rows xs) z (dataOf w)) t
+      ∙ rows-back (rows xs) d xs (dataOf w) (drop (d + length (dataWords xs)) (dataOf w)) (omega arith) (s .good) (s .contents)
+
+  pub run-of : (xs : Items) → Stands w d p e xs → Run w p e
+  run-of xs s = record { before = d; stands = subst (λ (ys : Items). Stands w d p e ys) (sym (stands-is xs s)) s }
+
+  pub leaf-is : (l : Leaf) → LeafRow w d p l → leafAt w p ≡ l
+  unfolding leafAt
+  leaf-is l r = rw (r .kind, r .a, r .b) (leaf-back l d (dataOf w) (drop (d + length (leafWords l)) (dataOf w)) (r .good) (r .contents))
+
+pub none-stands : (w : List ℕ) (d p : ℕ) → 3 * p + 4 ≤ length w → p ≤ 16384 → d ≤ 16384 → 4 + 3 * getD w 0 0 + d ≤ length w → Stands w d p p end
+unfolding rows rowWords dataWords proper
+none-stands w d p h f l s =
+    let z : d + 0 ≡ d = omega arith in
+    record { number = omega arith; words = refl; contents = rw z refl; good = refl; within = h; few = f; little = omega arith; stored = omega arith }

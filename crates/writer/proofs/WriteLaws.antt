@@ -1,0 +1,168 @@
+-- The normal form of a run, item by item, as it is written over the front of a list. Assumes nothing.
+use mathlib.Core.Path.{_≡_, refl, sym, _∙_, ap}
+use mathlib.Core.List.{List, [], _∷_, _++_}
+use mathlib.Core.Bool.{Bool, true, false}
+use Prim.Native.Nat.{ℕ, _+_, _-_, _<_, _≤_}
+use native.Mathlib.Omega.{arith}
+use lib.ListN.{length, take, drop, length-append}
+use Rattle.format.specs.Choice.{pick, ifEq}
+use Rattle.format.specs.Items.{Leaf, int, bits, char, bool, empty, xtra, Group, struc, edt, Items, end, leaf, group, isString}
+use Rattle.format.specs.Tables.{rows, rowKind}
+use Rattle.format.specs.Bits.{num, packed, bytesFor}
+use lib.IntN.{pos, negsuc}
+use Rattle.format.specs.Normal.{normalSize, withSize, linteger, normalInt, sbitstr, normalBits, normalLeaf, groupByte, normal, depth}
+use Rattle.format.specs.Answers.{over}
+use Rattle.format.proofs.Choices.{split, split-eq, byLt, ifEq-yes, ifEq-no}
+use Rattle.format.proofs.Digits.{width-mono}
+use Rattle.writer.specs.Rows.{kindAt, bAt, itemsAt, Run, leafAt}
+use Rattle.writer.specs.Measures.{Fits, FitsBox, headByte}
+use Rattle.writer.proofs.NumberLaws.{size-length-0, size-length-1, size-length-long}
+use Rattle.writer.proofs.RunLaws.{LeafStep, GroupStep, run-end, box-length}
+use Rattle.writer.proofs.Over.{over-next, over-done}
+use Rattle.writer.proofs.RunLaws.{leaf-normal}
+
+-- ---- the type-byte of a container
+pub head-edt : (k : ℕ) (c : Items) → k ≡ 8 → 0xc3 ≡ headByte k c
+unfolding headByte
+head-edt k c e = sym (ifEq-yes k 8 _ _ e)
+
+pub head-other : (k : ℕ) (c : Items) (b : Bool) → (k ≡ 8 → ⊥) → isString c ≡ b → pick b 0xc5 0xc2 ≡ headByte k c
+unfolding headByte
+head-other k c b n e = sym (ifEq-no k 8 _ _ n ∙ ap (λ t. pick t 0xc5 0xc2) e)
+
+pub string-head : (k : ℕ) (c : Items) → headByte k c ≡ 0xc5 → isString c ≡ true
+unfolding headByte
+string-head k c e = split-eq k 8 (λ z. absurd (omega (arith, sym e ∙ ifEq-yes k 8 _ _ z))) (λ n. go (isString c) (sym (ifEq-no k 8 _ _ n) ∙ e))
+  where
+    go : (b : Bool) → _≡_ {A = ℕ} (pick b 0xc5 0xc2) 0xc5 → b ≡ true
+    go true e = refl
+    go false e = absurd (unfold pick in omega arith)
+
+head-is : (g : Group) (c : Items) → groupByte g c ≡ headByte (rowKind g) c
+unfolding groupByte headByte rowKind ifEq pick
+head-is struc c = refl
+head-is edt c = refl
+
+pub group-normal : (w : List ℕ) (p e : ℕ) → GroupStep w p e →
+    normal (itemsAt w p e) ≡ (headByte (kindAt w p) (itemsAt w (p + 1) (p + 1 + bAt w p)) ∷ withSize (normal (itemsAt w (p + 1) (p + 1 + bAt w p)))) ++ normal (itemsAt w (p + 1 + bAt w p) e)
+unfolding normal
+group-normal w p e s =
+    let c = itemsAt w (p + 1) (p + 1 + bAt w p) in
+    ap normal (s .is) ∙ ap (λ z. z ∷ (withSize (normal c) ++ normal (itemsAt w (p + 1 + bAt w p) e))) (head-is (s .kind) c ∙ ap (λ k. headByte k c) (sym (s .row)))
+
+-- ---- how few bytes a size can take
+-- every row has a byte at least
+size-pos : (n : ℕ) → 0 < length (normalSize n)
+size-pos n =
+    split n 129
+    (λ l. split 0 n (λ h. omega (arith, size-length-1 n (λ z. omega arith) (omega arith))) (λ z. omega (arith, size-length-0 n (omega arith))))
+    (λ g. omega (arith, size-length-long n (omega arith)))
+
+leaf-pos : (l : Leaf) → 0 < length (normalLeaf l)
+unfolding normalLeaf normalInt linteger normalBits sbitstr
+leaf-pos (int (pos n)) = byLt (λ l. 0 < length l) n 64 {x = (0x80 + n) ∷ []} {y = linteger (pos n)} (λ h. omega arith) (λ h. omega arith)
+leaf-pos (int (negsuc n)) = omega arith
+leaf-pos (bits bs) = byLt (λ l. 0 < length l) (length bs) 64 {x = sbitstr (num (true ∷ bs))} {y = 0xc1 ∷ withSize (normalInt (pos (length bs)) ++ packed 8 (bytesFor (length bs)) bs)} (λ h. omega arith) (λ h. omega arith)
+leaf-pos (char c) = omega arith
+leaf-pos (bool b) = omega arith
+leaf-pos empty = omega arith
+leaf-pos (xtra n) = omega arith
+
+rows-least : (xs : Items) → rows xs ≤ length (normal xs)
+unfolding normal rows withSize
+rows-least end = omega arith
+rows-least (leaf l xs) = omega (arith, rows-least xs, leaf-pos l, length-append (normalLeaf l) (normal xs))
+rows-least (group g c xs) =
+    omega (arith, rows-least c, rows-least xs, length-append (normalSize (length (normal c)) ++ normal c) (normal xs), length-append (normalSize (length (normal c))) (normal c))
+
+-- no rows, no bytes
+rows-none : (xs : Items) → rows xs ≡ 0 → length (normal xs) ≡ 0
+unfolding normal rows
+rows-none end e = refl
+rows-none (leaf l xs) e = absurd (omega arith)
+rows-none (group g c xs) e = absurd (omega arith)
+
+size-mono : (a b : ℕ) → 0 < a → a ≤ b → length (normalSize a) ≤ length (normalSize b)
+size-mono a b p h =
+    split b 129 (λ l. omega (arith, size-length-1 a (λ z. omega arith) (omega arith), size-length-1 b (λ z. omega arith) (omega arith)))
+    (λ g. split a 129 (λ l. omega (arith, size-length-1 a (λ z. omega arith) (omega arith), size-length-long b (omega arith)))
+    (λ k. omega (arith, size-length-long a (omega arith), size-length-long b (omega arith), width-mono a b h)))
+
+-- so a run's size takes at least as many bytes as that of its number of rows
+pub least-size : (w : List ℕ) (p e : ℕ) → Run w p e → length (normalSize (e - p)) ≤ length (normalSize (length (normal (itemsAt w p e))))
+least-size w p e r =
+    let xs = itemsAt w p e in
+    let n : e - p ≡ rows xs = omega (arith, r .stands .number) in
+    rw n
+    (split 0 (rows xs) (λ h. size-mono (rows xs) (length (normal xs)) h (rows-least xs))
+    (λ z.
+    let a : rows xs ≡ 0 = omega arith in
+    let b : length (normal xs) ≡ rows xs = rows-none xs a ∙ sym a in
+    omega (arith, ap (λ k. length (normalSize k)) b)))
+
+-- ---- writing a run
+-- a run's items up to p are written, in n bytes
+pub record Going (w : List ℕ) (from to d : ℕ) (old out : List ℕ) (p n : ℕ) : Type 0 where
+  pub within : p ≤ to
+  pub run : Run w p to
+  pub shallow : depth (itemsAt w p to) ≤ d
+  pub same : length out ≡ length old
+  pub number : n + length (normal (itemsAt w p to)) ≡ length (normal (itemsAt w from to))
+  pub room : length (normal (itemsAt w from to)) ≤ length old
+  pub left : over (normal (itemsAt w from to)) old ≡ take n out ++ over (normal (itemsAt w p to)) (drop n out)
+
+pub going-starts : (w : List ℕ) (from to d : ℕ) (old : List ℕ) → Fits w from to d (length old) → Going w from to d old old from 0
+going-starts w from to d old f =
+    let n = f .run .stands .number in
+    record { within = omega arith; run = f .run; shallow = f .shallow; same = refl; number = omega arith; room = f .room; left = refl }
+
+pub going-ends : (w : List ℕ) (from to d : ℕ) (old out : List ℕ) (p n : ℕ) → Going w from to d old out p n → to ≤ p →
+    (n ≡ length (normal (itemsAt w from to))) × (out ≡ over (normal (itemsAt w from to)) old)
+unfolding normal
+going-ends w from to d old out p n s h =
+    let e = run-end w p to (s .run) h in
+    (sym (sym (s .number) ∙ ap (λ xs. n + length (normal xs)) e ∙ omega arith), sym (s .left ∙ ap (λ xs. take n out ++ over (normal xs) (drop n out)) e ∙ over-done n out))
+
+-- one item on, whose bytes are l, to the row q
+module _ (w : List ℕ) (from to d : ℕ) (old out : List ℕ) (p n : ℕ) (s : Going w from to d old out p n) where
+  -- there is room for it
+  going-room : (l : List ℕ) (q : ℕ) → normal (itemsAt w p to) ≡ l ++ normal (itemsAt w q to) → n + length l ≤ length out
+  going-room l q e =
+      let r = s .room in
+      let m = s .number in
+      let z = s .same in
+      omega (arith, ap length e, length-append l (normal (itemsAt w q to)))
+
+  pub leaf-room : LeafStep w p to → n + length (normalLeaf (leafAt w p)) ≤ length out
+  leaf-room t = going-room (normalLeaf (leafAt w p)) (p + 1) (leaf-normal w p to t)
+
+  pub group-room : GroupStep w p to → n + (1 + length (withSize (normal (itemsAt w (p + 1) (p + 1 + bAt w p))))) ≤ length out
+  group-room t =
+      let c = itemsAt w (p + 1) (p + 1 + bAt w p) in
+      let r = going-room (headByte (kindAt w p) c ∷ withSize (normal c)) (p + 1 + bAt w p) (group-normal w p to t) in
+      omega arith
+
+  pub going-on : (l after : List ℕ) (q b : ℕ) → normal (itemsAt w p to) ≡ l ++ normal (itemsAt w q to) → q ≤ to → Run w q to → depth (itemsAt w q to) ≤ d →
+      length after ≡ length out → after ≡ take n out ++ over l (drop n out) → b ≡ length l → Going w from to d old after q (n + b)
+  going-on l after q b e h r g k a bl =
+      let m : List ℕ = normal (itemsAt w q to) in
+      let c = s .number in
+      record {
+        within = h;
+        run = r;
+        shallow = g;
+        same = k ∙ s .same;
+        number = omega (arith, ap length e, length-append l m);
+        room = s .room;
+        left = rw bl (s .left ∙ ap (λ z. take n out ++ over z (drop n out)) e ∙ over-next n out l m after a (going-room l q e));
+      }
+
+-- ---- what a container has room for
+pub box-room : (w : List ℕ) (p e d n g : ℕ) → FitsBox w p e d n → g ≡ length (normalSize (e - p)) →
+    (1 + g ≤ n) × (length (normal (itemsAt w p e)) ≤ n - (1 + g)) × (g ≤ length (normalSize (length (normal (itemsAt w p e)))))
+    × (1 + length (normalSize (length (normal (itemsAt w p e)))) + length (normal (itemsAt w p e)) ≤ n)
+box-room w p e d n g f q =
+    let r = f .room in
+    let l = least-size w p e (f .run) in
+    let b = box-length (itemsAt w p e) in
+    (omega arith, omega arith, omega arith, omega arith)

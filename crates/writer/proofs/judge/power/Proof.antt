@@ -1,0 +1,18 @@
+-- `writer::judge::power` meets its contract. Assumes nothing.
+use mathlib.Core.Path.{_∙_}
+use native.Mathlib.Omega.{arith}
+use lib.Pow.{shl-exact}
+use borrow.Author.Needs.{needs}
+use Rattle.writer.proofs.judge.power.Statement.{statement}
+use Rattle.writer.proofs.judge.power.Tie as tie
+
+-- src/lib.rt:141:5
+shl-result : tie.Need-shl-result
+shl-result c = search needs
+
+-- src/lib.rt:137:1
+returns : tie.Need-returns
+returns c = shl-exact {a = 1} 1 (c .args .k) 64 (omega arith) (omega arith) ∙ omega arith
+
+pub power-spec : {M : Type 1} → statement M
+power-spec = tie.close (tie.spec shl-result returns)

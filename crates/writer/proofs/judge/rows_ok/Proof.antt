@@ -1,0 +1,122 @@
+-- `writer::judge::rows_ok` meets its contract: each row passed is in order, and its data words are counted. Assumes nothing.
+use mathlib.Core.Path.{_≡_, refl, sym, _∙_, ap}
+use mathlib.Core.Bool.{true}
+use native.Mathlib.Omega.{arith}
+use borrow.Author.Needs.{needs}
+use borrow.Author.Tests.{not-true, not-false}
+use Prim.Native.Nat.{ℕ, _-_, _<_, _≤_}
+use lib.ListN.{getD}
+use Rattle.writer.specs.Rows.{lands, rowOk, dataTo}
+use Rattle.writer.proofs.LeafRows.{clash}
+use Rattle.writer.proofs.RowLaws.{all-on, row-on}
+use Rattle.writer.proofs.Whole.{formed-no, formed-end}
+use Rattle.writer.proofs.judge.rows_ok.Statement.{statement}
+use Rattle.writer.proofs.judge.rows_ok.Tie as tie
+
+abbrev Inv-loop : tie.InvT-loop
+Inv-loop table rows words p₀ past₀ p past =
+    (p ≤ rows) × (lands table (getD table 1 0) 0 rows ≡ true) × ((i : ℕ) → i < p → rowOk table rows i ≡ true) × (past ≡ dataTo table p) × (past ≤ words)
+
+abbrev μ-loop : tie.MeasureT-loop
+μ-loop table rows words p₀ past₀ p past = rows - p
+
+shared-slice-read-lands : tie.Need-shared-slice-read-lands Inv-loop μ-loop
+shared-slice-read-lands c = omega arith
+
+lands-requires : tie.Need-lands-requires Inv-loop μ-loop
+lands-requires c κs = omega arith
+
+returns : tie.Need-returns Inv-loop μ-loop
+returns c =
+    let h = c .before .before .before .before .pre in
+    formed-no _ (λ f. clash _ (f .outer) (rw (h .rows) at (sym (c .before .lands .ensures) ∙ not-true _ (c .if1 .taken))))
+
+loop-holds : tie.Need-loop-holds Inv-loop μ-loop
+unfolding dataTo
+loop-holds c = (omega arith, sym (c .before .lands .ensures) ∙ not-false _ (c .if1 .left), (λ i h. absurd (omega arith)), refl, omega arith)
+
+plain-until-requires : tie.Need-plain-until-requires Inv-loop μ-loop
+plain-until-requires c κs = omega arith
+
+loop-less : tie.Need-loop-less Inv-loop μ-loop
+loop-less c = let s = c .before .plain-until .ensures in omega arith
+
+loop-again : tie.Need-loop-again Inv-loop μ-loop
+loop-again c =
+    let s = c .before .plain-until .ensures in
+    let i = c .before .before .before .loop .inv in
+    (s .within, i .1, all-on _ _ _ _ (i .2) s, i .3 ∙ sym (s .none), i .4)
+
+judge-row-requires : tie.Need-judge-row-requires Inv-loop μ-loop
+judge-row-requires c κs =
+    let s = c .before .plain-until .ensures in
+    let i = c .before .before .before .loop .inv in
+    let w = s .within in
+    ((c .before .before .before .before .before .before .before .before .pre, omega (arith, c .if2 .left)), (i .3 ∙ sym (s .none), i .4))
+
+enum-told : tie.Need-enum-told Inv-loop μ-loop
+enum-told c = search needs
+
+returns-2 : tie.Need-returns-2 Inv-loop μ-loop
+returns-2 c =
+    let j = rw (c .enum-told .given .1) at (c .before .before .judge-row .ensures) in
+    let h = c .before .before .before .before .before .before .before .before .before .before .before .pre in
+    let s = c .before .before .before .before .plain-until .ensures in
+    let w = s .within in
+    let q : c .before .before .before .before .plain-until .result < getD (c .before .before .before .before .before .before .before .before .before .before .before .args .table .now) 0 0 = omega (arith, c .before .before .before .if2 .left, h .rows) in
+    formed-no _ (λ f. clash _ (f .each (c .before .before .before .before .plain-until .result) (omega arith) q) (rw (h .rows) at j))
+
+enum-known-one : tie.Need-enum-known-one Inv-loop μ-loop
+enum-known-one c = search needs
+
+add-past : tie.Need-add-past Inv-loop μ-loop
+add-past c =
+    let j = rw (c .before .one .given .1) at (c .before .before .before .judge-row .ensures) in
+    let h = c .before .before .before .before .before .before .before .before .before .before .before .before .pre in
+    omega arith
+
+add-p : tie.Need-add-p Inv-loop μ-loop
+add-p c =
+    let h = c .before .before .before .before .before .before .before .before .before .before .before .before .pre in
+    let w = c .before .before .before .before .before .plain-until .ensures .within in
+    omega arith
+
+loop-less-2 : tie.Need-loop-less-2 Inv-loop μ-loop
+loop-less-2 c = let s = c .before .before .before .before .before .plain-until .ensures in let w = s .start in omega (arith, c .before .before .before .before .if2 .left, s .within)
+
+loop-again-2 : tie.Need-loop-again-2 Inv-loop μ-loop
+loop-again-2 c =
+    let j = rw (c .before .one .given .1) at (c .before .before .before .judge-row .ensures) in
+    let s = c .before .before .before .before .before .plain-until .ensures in
+    let w = s .within in
+    let i = c .before .before .before .before .before .before .before .loop .inv in
+    (omega (arith, c .before .before .before .before .if2 .left), i .1, row-on _ _ _ (all-on _ _ _ _ (i .2) s) (j .0), j .2, j .1)
+
+returns-3 : tie.Need-returns-3 Inv-loop μ-loop
+returns-3 c =
+    let e : c .before .loop .p ≡ c .before .before .before .before .before .before .args .rows = omega arith in
+    formed-end (c .before .before .before .before .before .before .args .table .now) (c .before .before .before .before .before .before .args .rows) (c .before .before .before .before .before .before .args .words) (c .before .loop .past) (c .before .before .before .before .before .before .pre) (λ i. omega (arith, c .before .before .before .before .before .shared-slice-known .given i))
+    (c .before .loop .inv .1) (λ i h. c .before .loop .inv .2 i (omega arith)) (c .before .loop .inv .3 ∙ ap (dataTo _) e)
+
+pub rows-ok-spec : {M : Type 1} → statement M
+rows-ok-spec =
+    tie.close
+    (tie.spec
+    Inv-loop
+    μ-loop
+    shared-slice-read-lands
+    lands-requires
+    returns
+    loop-holds
+    plain-until-requires
+    loop-less
+    loop-again
+    judge-row-requires
+    enum-told
+    returns-2
+    enum-known-one
+    add-past
+    add-p
+    loop-less-2
+    loop-again-2
+    returns-3)

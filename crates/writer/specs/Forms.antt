@@ -1,0 +1,54 @@
+-- The parts of a normal form that the code measures and writes one by one.
+use Prim.Native.Nat.{ℕ, _+_, _/_}
+use mathlib.Core.Bool.{true}
+use mathlib.Core.List.{List, [], _∷_, _++_}
+use lib.ListN.{length}
+use lib.IntN.{pos}
+use Rattle.format.specs.Choice.{ifLt, ifEq}
+use Rattle.format.specs.Bits.{num, packed, bytesFor}
+use Rattle.format.specs.Items.{Leaf, int, bits, char, bool, empty, xtra}
+use Rattle.format.specs.Normal.{normalSize, normalInt}
+
+-- the contents of an LBITSTR of n bits have this size
+unfoldable pub longSize : ℕ → ℕ
+unfolding normalInt bytesFor
+longSize n = length (normalInt (pos n)) + bytesFor n
+
+-- the bytes of a BITS of n bits
+unfoldable pub bitsLength : ℕ → ℕ
+unfolding ifLt longSize normalSize
+bitsLength n = ifLt n 64 (2 + n / 8) (1 + length (normalSize (longSize n)) + longSize n)
+
+-- the bits of a BITS with the marker before them, as a number
+unfoldable pub marker : Leaf → ℕ
+unfolding num
+marker (int z) = 0
+marker (bits bs) = num (true ∷ bs)
+marker (char c) = 0
+marker (bool b) = 0
+marker empty = 0
+marker (xtra n) = 0
+
+-- the bits of a BITS, left-adjusted in bytes, and with their number before them
+unfoldable pub leafBytes : Leaf → List ℕ
+unfolding packed bytesFor
+leafBytes (int z) = []
+leafBytes (bits bs) = packed 8 (bytesFor (length bs)) bs
+leafBytes (char c) = []
+leafBytes (bool b) = []
+leafBytes empty = []
+leafBytes (xtra n) = []
+
+unfoldable pub counted : Leaf → List ℕ
+unfolding packed bytesFor normalInt
+counted (int z) = []
+counted (bits bs) = normalInt (pos (length bs)) ++ packed 8 (bytesFor (length bs)) bs
+counted (char c) = []
+counted (bool b) = []
+counted empty = []
+counted (xtra n) = []
+
+-- CHAR, BOOL, EMPTY and XTRA by kind and code
+unfoldable pub plainByte : ℕ → ℕ → ℕ
+unfolding ifEq
+plainByte k b = ifEq k 3 b (ifEq k 4 (0xfc + b) (ifEq k 5 0xfe (0xf8 + b)))

@@ -1,0 +1,4 @@
+pub mod Rows
+pub mod Forms
+pub mod Measures
+pub mod Verdicts

@@ -1,0 +1,40 @@
+-- The length of a normal form, where so many containers may stand inside one another, and the room for it.
+use Prim.Native.Nat.{ℕ, suc, _+_, _≤_}
+use mathlib.Core.List.{List, _++_}
+use lib.ListN.{length, take, drop}
+use Rattle.writer.specs.declared.measure.Measured.{Measured}
+use Rattle.writer.specs.declared.measure.Measured.the-variants.{Deep, Length}
+use Rattle.format.specs.Choice.{pick, ifLt, ifEq}
+use Rattle.format.specs.Items.{Items, isString}
+use Rattle.format.specs.Normal.{withSize, normal, depth}
+use Rattle.writer.specs.Rows.{Run, itemsAt}
+
+unfoldable pub measured : ℕ → Items → Measured
+unfolding ifLt normal depth
+measured d xs = ifLt d (depth xs) Deep (Length (length (normal xs)))
+
+-- a container of these elements, itself counted
+unfoldable pub boxed : ℕ → Items → Measured
+unfolding ifLt normal depth withSize
+boxed d c = ifLt d (suc (depth c)) Deep (Length (1 + length (withSize (normal c))))
+
+-- the items of a run are at most d deep, and their normal form has room in n bytes
+pub record Fits (w : List ℕ) (p e d n : ℕ) : Type 0 where
+  pub run : Run w p e
+  pub shallow : depth (itemsAt w p e) ≤ d
+  pub room : length (normal (itemsAt w p e)) ≤ n
+
+-- so are the items of a container, itself counted
+pub record FitsBox (w : List ℕ) (p e d n : ℕ) : Type 0 where
+  pub run : Run w p e
+  pub shallow : suc (depth (itemsAt w p e)) ≤ d
+  pub room : 1 + length (withSize (normal (itemsAt w p e))) ≤ n
+
+-- the type-byte of a container by its row's kind
+unfoldable pub headByte : ℕ → Items → ℕ
+unfolding pick ifEq isString
+headByte k c = ifEq k 8 0xc3 (pick (isString c) 0xc5 0xc2)
+
+-- n bytes from a on, moved k bytes on
+unfoldable pub moved : ℕ → ℕ → ℕ → List ℕ → List ℕ
+moved a n k t = take (a + k) t ++ (take n (drop a t) ++ drop (a + k + n) t)

@@ -1,0 +1,120 @@
+// Whole numbers in bytes: the fewest that hold one, sizes and integers in normal form.
+ghost use mathlib.Core.Path.{_≡_};
+ghost use mathlib.Core.List.{_∷_};
+ghost use Prim.Native.Nat.{_+_, _*_, _%_, _^_, _≤_, _<_};
+ghost use lib.ListN.{length};
+ghost use lib.Signed.{mag};
+ghost use Rattle.format.specs.Numbers.{be, signed, width};
+ghost use Rattle.format.specs.Normal.{normalInt, normalSize};
+ghost use Rattle.format.specs.Answers.{over};
+
+// The fewest bytes, one at least, that hold a number.
+pub fn width(n: u64) -> usize
+    ensures { λ r. ⌜ (r ≡ width n) × (r ≤ 8) ⌝ }
+{
+    let mut x = n;
+    let mut w: usize = 1;
+    while x >= 256 {
+        x = x / 256;
+        w += 1;
+    }
+    w
+}
+
+// How many bytes the size field of `n` bytes takes.
+pub fn size_length(n: usize) -> usize
+    ensures { λ r. ⌜ r ≡ length (normalSize n) ⌝ }
+{
+    if n == 0 {
+        return 2;
+    }
+    if n <= 128 {
+        return 1;
+    }
+    1 + width(n as u64)
+}
+
+// The signed number whose eight bytes, in two's complement, are `v`.
+pub fn value_of(v: u64) -> i64
+    ensures { λ r. ⌜ r ≡ signed 8 v ⌝ }
+{
+    if v < 0x8000_0000_0000_0000 {
+        return v as i64;
+    }
+    -1 - ((0xffff_ffff_ffff_ffff - v) as i64)
+}
+
+// Twice the magnitude of a signed number, which is -1 - z where it is negative: k bytes hold it if this is below 256 ^ k.
+pub fn doubled(z: i64) -> u64
+    ensures { λ r. ⌜ r ≡ 2 * mag z ⌝ }
+{
+    if z < 0 {
+        return 2 * ((-1 - z) as u64);
+    }
+    2 * (z as u64)
+}
+
+pub fn int_length(v: u64) -> usize
+    ensures { λ r. ⌜ r ≡ length (normalInt (signed 8 v)) ⌝ }
+{
+    if v < 64 {
+        return 1;
+    }
+    1 + width(doubled(value_of(v)))
+}
+
+// The low `k` bytes of `n`, the high byte first.
+pub fn put_low(out: &mut [u8], k: usize, n: u64)
+    requires { ⌜ k ≤ length (now out) ⌝ }
+    ensures { λ r. ⌜ now (out .exit) ≡ over (be k (n % 256 ^ k)) (now (out .entry)) ⌝ }
+{
+    let mut x = n;
+    let mut i = k;
+    while i > 0 {
+        i -= 1;
+        out[i] = (x % 256) as u8;
+        x = x / 256;
+    }
+}
+
+// A first byte, and the low `k` bytes of `n` behind it.
+pub fn put_tagged(out: &mut [u8], tag: usize, k: usize, n: u64)
+    requires { ⌜ (tag < 256) × (k < length (now out)) ⌝ }
+    ensures { λ r. ⌜ now (out .exit) ≡ over (tag ∷ be k (n % 256 ^ k)) (now (out .entry)) ⌝ }
+{
+    out[0] = tag as u8;
+    put_low(&mut out[1..], k, n);
+}
+
+pub fn put_size(out: &mut [u8], n: usize)
+    requires { ⌜ length (normalSize n) ≤ length (now out) ⌝ }
+    ensures { λ r. ⌜ now (out .exit) ≡ over (normalSize n) (now (out .entry)) ⌝ }
+{
+    if n == 0 {
+        out[0] = 0x81;
+        out[1] = 0;
+        return;
+    }
+    if n < 128 {
+        out[0] = n as u8;
+        return;
+    }
+    if n == 128 {
+        out[0] = 0;
+        return;
+    }
+    let k = width(n as u64);
+    put_tagged(out, 0x80 + k, k, n as u64);
+}
+
+pub fn put_int(out: &mut [u8], v: u64)
+    requires { ⌜ length (normalInt (signed 8 v)) ≤ length (now out) ⌝ }
+    ensures { λ r. ⌜ now (out .exit) ≡ over (normalInt (signed 8 v)) (now (out .entry)) ⌝ }
+{
+    if v < 64 {
+        out[0] = (0x80 + v) as u8;
+        return;
+    }
+    let k = width(doubled(value_of(v)));
+    put_tagged(out, 0xe0 + k % 8, k, v);
+}

@@ -1,0 +1,121 @@
+// The bytes of the normal form of the items in a run of rows, where they are known to fit. Each row is visited once, and a
+// string's a second time.
+ghost use mathlib.Core.Path.{_≡_};
+ghost use mathlib.Core.Bool.{true};
+ghost use mathlib.Core.List.{_∷_};
+ghost use Prim.Native.Nat.{_+_, _≤_};
+ghost use lib.ListN.{length};
+ghost use Rattle.format.specs.Normal.{normal, withSize};
+ghost use Rattle.format.specs.Answers.{over};
+ghost use Rattle.writer.specs.Rows.{Run, itemsAt, allChars};
+ghost use Rattle.writer.specs.Measures.{Fits, FitsBox, headByte, moved};
+use crate::judge::all_chars;
+use crate::leaves::put_head;
+use crate::leaves::put_leaf;
+use crate::numbers::size_length;
+
+// Moves the `n` bytes from `from` on further on by `by` bytes.
+fn shift(out: &mut [u8], from: usize, n: usize, by: usize)
+    requires { ⌜ from + by + n ≤ length (now out) ⌝ }
+    ensures { λ r. ⌜ now (out .exit) ≡ moved from n by (now (out .entry)) ⌝ }
+{
+    if by == 0 {
+        return;
+    }
+    let mut i = n;
+    while i > 0 {
+        i -= 1;
+        out[from + by + i] = out[from + i];
+    }
+}
+
+// The characters of a string.
+fn put_chars(table: &[u64], from: usize, to: usize, out: &mut [u8])
+    requires { ⌜ Run (now table) from to × (allChars (now table) from to ≡ true) ⌝ }
+    requires { ⌜ length (normal (itemsAt (now table) from to)) ≤ length (now out) ⌝ }
+    ensures { λ r. ⌜ now (out .exit) ≡ over (normal (itemsAt (now (table .entry)) from to)) (now (out .entry)) ⌝ }
+{
+    let n = to - from;
+    let mut i: usize = 0;
+    while i < n {
+        out[i] = table[3 * (from + i) + 6] as u8;
+        i += 1;
+    }
+}
+
+fn write_string(table: &[u64], from: usize, to: usize, out: &mut [u8]) -> usize
+    requires { ⌜ Run (now table) from to × (allChars (now table) from to ≡ true) ⌝ }
+    requires { ⌜ 1 + length (withSize (normal (itemsAt (now table) from to))) ≤ length (now out) ⌝ }
+    ensures { λ r. ⌜ r ≡ 1 + length (withSize (normal (itemsAt (now (table .entry)) from to))) ⌝ }
+    ensures { λ r. ⌜ now (out .exit) ≡ over (0xc5 ∷ withSize (normal (itemsAt (now (table .entry)) from to))) (now (out .entry)) ⌝ }
+{
+    let size = to - from;
+    put_head(out, 0xc5, size);
+    let used = 1 + size_length(size);
+    put_chars(table, from, to, &mut out[used..]);
+    used + size
+}
+
+// The type-byte of a container of this kind whose elements stand from `from` up to `to`.
+fn head_byte(table: &[u64], kind: u64, from: usize, to: usize) -> u8
+    requires { ⌜ Run (now table) from to ⌝ }
+    ensures { λ r. ⌜ r ≡ headByte kind (itemsAt (now (table .entry)) from to) ⌝ }
+{
+    if kind == 8 {
+        return 0xc3;
+    }
+    if all_chars(table, from, to) {
+        return 0xc5;
+    }
+    0xc2
+}
+
+// The elements are written first, behind room for the fewest size bytes that so many rows can need, and moved on if their
+// size takes more.
+fn write_container(
+    table: &[u64],
+    kind: u64,
+    from: usize,
+    to: usize,
+    depth: usize,
+    out: &mut [u8],
+) -> usize
+    requires { ⌜ FitsBox (now table) from to depth (length (now out)) ⌝ }
+    ensures { λ r. ⌜ r ≡ 1 + length (withSize (normal (itemsAt (now (table .entry)) from to))) ⌝ }
+    ensures { λ r. ⌜ now (out .exit) ≡ over (headByte kind (itemsAt (now (table .entry)) from to) ∷ withSize (normal (itemsAt (now (table .entry)) from to))) (now (out .entry)) ⌝ }
+{
+    let byte = head_byte(table, kind, from, to);
+    if byte == 0xc5 {
+        return write_string(table, from, to, out);
+    }
+    let least = size_length(to - from);
+    let start = 1 + least;
+    let size = write_run(table, from, to, depth - 1, &mut out[start..]);
+    let used = size_length(size);
+    shift(out, start, size, used - least);
+    put_head(out, byte, size);
+    1 + used + size
+}
+
+pub fn write_run(table: &[u64], from: usize, to: usize, depth: usize, out: &mut [u8]) -> usize
+    requires { ⌜ Fits (now table) from to depth (length (now out)) ⌝ }
+    ensures { λ r. ⌜ r ≡ length (normal (itemsAt (now (table .entry)) from to)) ⌝ }
+    ensures { λ r. ⌜ now (out .exit) ≡ over (normal (itemsAt (now (table .entry)) from to)) (now (out .entry)) ⌝ }
+{
+    let mut p = from;
+    let mut n: usize = 0;
+    while p < to {
+        let kind = table[3 * p + 4];
+        if kind < 7 {
+            let bytes = put_leaf(table, p, &mut out[n..]);
+            n += bytes;
+            p += 1;
+            continue;
+        }
+        let next = p + 1 + (table[3 * p + 6] as usize);
+        let bytes = write_container(table, kind, p + 1, next, depth, &mut out[n..]);
+        n += bytes;
+        p = next;
+    }
+    n
+}

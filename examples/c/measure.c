@@ -1,0 +1,180 @@
+/*
+ * Lists the items of a message, or prints why it is refused, then prints the
+ * normal form. From the repository's root, once `rt staticlib message_c` has
+ * made the archive:
+ *
+ *   gcc -std=c99 -Wall -Wextra -pedantic -Iinclude examples/c/measure.c target/staticlib/libmessage_c.a -o target/measure
+ *   target/measure examples/empty-chest.msg
+ *
+ * The exit status is 0 for a message that is read, 1 for one that is refused,
+ * and 2 for a file that cannot be read.
+ */
+
+#include <inttypes.h>
+#include <stdio.h>
+
+#include "msdtp.h"
+
+/* Enough for every table and every normal form. */
+enum { TABLE_WORDS = 65540, OUTPUT_BYTES = 65536 };
+
+/* One byte more than a message may have, so that a longer file is refused. */
+enum { MESSAGE_BYTES = 65537 };
+
+/* STRUCs and EDTs stand inside one another at most so deep. */
+enum { MOST_NESTED = 16 };
+
+enum { INT = 1, BITS, CHAR, BOOL, EMPTY, XTRA, STRUC, EDT };
+
+static uint8_t message[MESSAGE_BYTES];
+static uint64_t table[TABLE_WORDS];
+static uint8_t output[OUTPUT_BYTES];
+
+static const char *const meanings[] = {
+    "accepted",
+    "the message is longer than 65,536 bytes",
+    "the message ends in the middle of an object",
+    "an object does not fit into the one that holds it",
+    "a byte that means nothing in this format",
+    "seventeen containers, one inside the other; sixteen are allowed",
+    "a bit string that does not say how long it is, or says it wrongly",
+    "a repeat where none may stand, or without a proper count",
+    "a list that promises one kind and holds several",
+    "an EDT whose first two elements are not its type and its version",
+    "more than 16,384 rows, or more than 16,384 words of bits",
+    "the table that was lent is too short",
+    "what was given to write is no table of items",
+    "more than sixteen containers, one inside the other",
+    "the normal form would be longer than 65,536 bytes",
+    "the output that was lent is too short"
+};
+
+/* Prints a refusal and gives the exit status for it. Writing's have no place. */
+static int refused(uint64_t number, uint64_t place)
+{
+    printf("refused %" PRIu64, number);
+    if (number <= 11) {
+        printf(" at %" PRIu64, place);
+    }
+    printf(": %s\n", meanings[number]);
+    return 1;
+}
+
+/* Prints so many bits of the table's data, from one of its words on. */
+static void print_bits(uint64_t count, uint64_t first)
+{
+    const uint64_t *words = table + table[2] + first;
+    uint64_t bit;
+
+    printf("BITS of %" PRIu64 "%s", count, count > 0 ? " " : "");
+    for (bit = 0; bit < count; bit++) {
+        putchar(words[bit / 64] >> (63 - bit % 64) & 1 ? '1' : '0');
+    }
+    putchar('\n');
+}
+
+/* Prints an INT, which the table has modulo 2^64. */
+static void print_int(uint64_t value)
+{
+    if (value >> 63) {
+        printf("INT -%" PRIu64 "\n", 0 - value);
+    } else {
+        printf("INT %" PRIu64 "\n", value);
+    }
+}
+
+/* Prints one row: its kind, a and b. */
+static void print_row(const uint64_t *row)
+{
+    uint64_t a = row[1], b = row[2];
+
+    switch (row[0]) {
+    case INT: print_int(b); break;
+    case BITS: print_bits(a, b); break;
+    case CHAR: printf("CHAR %" PRIu64 "\n", b); break;
+    case BOOL: printf("BOOL %s\n", b ? "TRUE" : "FALSE"); break;
+    case EMPTY: printf("EMPTY: stop and ask\n"); break;
+    case XTRA: printf("XTRA %" PRIu64 "\n", b); break;
+    case STRUC: printf("STRUC of %" PRIu64 "\n", a); break;
+    case EDT: printf("EDT of %" PRIu64 "\n", a); break;
+    }
+}
+
+/*
+ * Prints every row, farther to the right inside STRUCs and EDTs. For each of
+ * these that is open, ends[] has the number of the first row after it. A table
+ * that reading filled has no row that ends after the one around it, and none
+ * deeper than the array.
+ */
+static void print_rows(void)
+{
+    uint64_t ends[MOST_NESTED], at;
+    int depth = 0;
+
+    for (at = 0; at < table[0]; at++) {
+        const uint64_t *row = table + 4 + 3 * at;
+
+        while (depth > 0 && ends[depth - 1] == at) {
+            depth--;
+        }
+        printf("%*s", 2 * depth, "");
+        print_row(row);
+        if ((row[0] == STRUC || row[0] == EDT) && row[2] > 0) {
+            ends[depth++] = at + 1 + row[2];
+        }
+    }
+}
+
+/* Reads the message, then lists it. The table then holds its items. */
+static int list(size_t length)
+{
+    struct msdtp_reading reading = msdtp_read(message, length, table, TABLE_WORDS);
+
+    if (reading.number != 0) {
+        return refused(reading.number, reading.place);
+    }
+    printf("accepted: %" PRIu64 " outermost, %" PRIu64 " rows, %" PRIu64 " words\n",
+           table[1], table[0], reading.words);
+    print_rows();
+    return 0;
+}
+
+/* Normalises the message, then prints its normal form. */
+static int print_normal_form(size_t length)
+{
+    struct msdtp_normalising normal =
+        msdtp_normalise(message, length, table, TABLE_WORDS, output, OUTPUT_BYTES);
+    uint64_t at;
+
+    if (normal.number != 0) {
+        return refused(normal.number, normal.place);
+    }
+    printf("normal form, %" PRIu64 " bytes:", normal.length);
+    for (at = 0; at < normal.length; at++) {
+        printf(" %02X", (unsigned)output[at]);
+    }
+    putchar('\n');
+    return 0;
+}
+
+int main(int count, char **arguments)
+{
+    const char *name = count > 1 ? arguments[1] : "examples/empty-chest.msg";
+    FILE *file = fopen(name, "rb");
+    size_t length;
+    int failed;
+
+    if (file == NULL) {
+        perror(name);
+        return 2;
+    }
+    length = fread(message, 1, MESSAGE_BYTES, file);
+    failed = ferror(file);
+    fclose(file);
+    if (failed) {
+        fprintf(stderr, "%s cannot be read\n", name);
+        return 2;
+    }
+    failed = list(length);
+    return failed ? failed : print_normal_form(length);
+}

@@ -1,0 +1,106 @@
+//! The messages that are measured.
+
+pub struct Load {
+    pub name: &'static str,
+    pub message: Vec<u8>,
+}
+
+fn sized(type_byte: u8, contents: &[u8]) -> Vec<u8> {
+    let size = contents.len();
+    let told = match size {
+        1..=127 => vec![size as u8],
+        _ => vec![0x82, (size >> 8) as u8, size as u8],
+    };
+    [vec![type_byte], told, contents.to_vec()].concat()
+}
+
+/// Bytes that differ from one another, all with these high bits.
+fn bytes(count: usize, high: u8, low: u8) -> Vec<u8> {
+    let byte = |at: usize| high | ((at * 37 + at / 61) as u8 & low);
+    (0..count).map(byte).collect()
+}
+
+fn long_integers(count: usize) -> Vec<u8> {
+    let object = |at: usize| {
+        let value = (at as u32).wrapping_mul(0x9E37_79B9) | 0x4000_0000;
+        [vec![0xE4], value.to_be_bytes().to_vec()].concat()
+    };
+    (0..count).flat_map(object).collect()
+}
+
+fn nest_of_sixteen() -> Vec<u8> {
+    (0..16).fold(vec![0x80], |inner, _| sized(0xC2, &inner))
+}
+
+fn bit_string(count: usize) -> Vec<u8> {
+    let length = (8 * count as u32).to_be_bytes();
+    sized(
+        0xC1,
+        &[&[0xE4], &length[..], &bytes(count, 0, 0xFF)].concat(),
+    )
+}
+
+/// A measure sheet: type, version, order number, unit and three figures.
+fn measure_sheet() -> Vec<u8> {
+    let kind = sized(0xC6, b"MEASURE");
+    let order = [0xE0, 0, 0, 0x01, 0x9A, 0x3C, 0x55, 0x07, 0x21];
+    let figures = [
+        [0xE4, 0, 0, 0x04, 0x1A],
+        [0xE4, 0, 0, 0x03, 0x66],
+        [0xE4, 0, 0, 0x02, 0x8F],
+    ];
+    sized(
+        0xC3,
+        &[&kind, &[0x81][..], &order, &[0xF8], &figures.concat()].concat(),
+    )
+}
+
+/// A letter with some of everything in it.
+fn letter() -> Vec<u8> {
+    let date = sized(0xC3, &[0x87, 0x81, 0xE2, 0x07, 0xB8, 0x84, 0x86]);
+    let from = sized(0xC6, b"JFH@MIT-DMS");
+    let flags = sized(0xC2, &[0xFC, 0xFD, 0xFE, 0xF9, 0xF2, 0x02, 0x53]);
+    let scores = sized(0xC5, &[0xC4, 0x02, 0x86, 0x80, 0x81, 0xE1, 0x7F]);
+    let picture = bit_string(18);
+    let text = sized(0xC5, b"A mechanism is defined for use by message servers.");
+    let parts = [
+        vec![0x85, 0x81, 0xFF],
+        date,
+        from,
+        flags,
+        scores,
+        picture,
+        text,
+    ];
+    sized(0xC3, &parts.concat())
+}
+
+fn load(name: &'static str, message: Vec<u8>) -> Load {
+    Load { name, message }
+}
+
+pub fn loads() -> Vec<Load> {
+    let pattern = sized(0xC4, &[0xE2, 0x15, 0x55, 0xF1, 0x03, 0xF1, 0x01, 0x80]);
+    let string = bytes(16_380, 0, 0x7F);
+    vec![
+        load(
+            "16,383 small INTs in a STRUC",
+            sized(0xC2, &bytes(16_383, 0x80, 0x3F)),
+        ),
+        load("64 KB of four-byte INTs", long_integers(13_107)),
+        load("a string of 16,380 as USTRUC", sized(0xC5, &string)),
+        load("the same as STRING", sized(0xC6, &string)),
+        load("strings of eight", sized(0xC5, b"MESSAGES").repeat(1_820)),
+        load("nests of sixteen", nest_of_sixteen().repeat(963)),
+        load("a bit string of 60 KB", bit_string(60_000)),
+        load(
+            "16,383 INTs from eight bytes",
+            vec![0xC2, 6, 0xC4, 4, 0xE2, 0x3F, 0xFF, 0x80],
+        ),
+        load("three rows with bits, 5,461 times", sized(0xC2, &pattern)),
+        load("64 KB of padding", vec![0xFF; 65_536]),
+        load("a mixed message", letter().repeat(160)),
+        load("one measure sheet", measure_sheet()),
+        load("seven hundred of them", measure_sheet().repeat(700)),
+    ]
+}

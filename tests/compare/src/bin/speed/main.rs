@@ -1,0 +1,152 @@
+//! How long the library takes beside the second program, by kind of message.
+//!
+//! Both are run by turns in one run, and the shortest of many rounds counts.
+//! Buffers are lent as the call before left them. The floor is a plain loop
+//! that stores as many words as the table has.
+
+#![cfg_attr(
+    not(any(has_read, has_write, has_normal_length, has_normalise)),
+    allow(unused)
+)]
+
+mod loads;
+mod measure;
+
+use compare::library;
+use loads::{loads, Load};
+use measure::{measure, store_words, Buffers, Call, Times};
+use std::hint::black_box;
+
+/// An operation as both programs do it; the archive may not have it yet.
+struct Operation {
+    name: &'static str,
+    library: Option<Call>,
+    second: Call,
+}
+
+fn reading() -> Operation {
+    #[cfg(has_read)]
+    let library: Option<Call> = Some(|lent| {
+        let answer = library::read(&lent.message, &mut lent.table, library::Empty::AsItIs);
+        black_box(answer);
+    });
+    #[cfg(not(has_read))]
+    let library = None;
+    Operation {
+        name: "read",
+        library,
+        second: |lent| {
+            black_box(second::read(black_box(&lent.message), &mut lent.table));
+        },
+    }
+}
+
+fn writing() -> Operation {
+    #[cfg(has_write)]
+    let library: Option<Call> = Some(|lent| {
+        let answer = library::write(&lent.given, &mut lent.output, library::Empty::AsItIs);
+        black_box(answer);
+    });
+    #[cfg(not(has_write))]
+    let library = None;
+    Operation {
+        name: "write",
+        library,
+        second: |lent| {
+            black_box(second::write(black_box(&lent.given), &mut lent.output));
+        },
+    }
+}
+
+fn normal_length() -> Operation {
+    #[cfg(has_normal_length)]
+    let library: Option<Call> = Some(|lent| {
+        black_box(library::normal_length(&lent.given, library::Empty::AsItIs));
+    });
+    #[cfg(not(has_normal_length))]
+    let library = None;
+    Operation {
+        name: "normal_length",
+        library,
+        second: |lent| {
+            black_box(second::normal_length(black_box(&lent.given)));
+        },
+    }
+}
+
+fn normalising() -> Operation {
+    #[cfg(has_normalise)]
+    let library: Option<Call> = Some(|lent| {
+        let (table, output) = (&mut lent.table, &mut lent.output);
+        let answer = library::normalise(&lent.message, table, output, library::Empty::AsItIs);
+        black_box(answer);
+    });
+    #[cfg(not(has_normalise))]
+    let library = None;
+    Operation {
+        name: "normalise",
+        library,
+        second: |lent| {
+            let (table, output) = (&mut lent.table, &mut lent.output);
+            black_box(second::normalise(black_box(&lent.message), table, output));
+        },
+    }
+}
+
+fn head(operation: &Operation) {
+    println!(
+        "\n{}: ns for a call, a byte of the message, a row",
+        operation.name
+    );
+    println!(
+        "{:34} {:>6} {:>6} | {:>10} {:>7} {:>7} | {:>10} {:>7} {:>7} | {:>5} | {:>9}",
+        "", "bytes", "rows", "library", "byte", "row", "second", "byte", "row", "ratio", "floor"
+    );
+}
+
+/// Time for each of some units; nothing where they are too few to tell.
+fn each(time: f64, units: usize) -> String {
+    match units {
+        0..=15 => String::from("-"),
+        _ => format!("{:.2}", time / units as f64),
+    }
+}
+
+fn line(load: &Load, lent: &Buffers, times: &Times) {
+    let bytes = lent.message.len();
+    let rows = lent.given[0] as usize;
+    let Times {
+        library,
+        second,
+        floor,
+    } = *times;
+    let of = |time: f64| {
+        format!(
+            "{time:10.1} {:>7} {:>7}",
+            each(time, bytes),
+            each(time, rows)
+        )
+    };
+    let ratio = library / second;
+    println!(
+        "{:34} {bytes:6} {rows:6} | {} | {} | {ratio:5.2} | {floor:9.1}",
+        load.name,
+        of(library),
+        of(second),
+    );
+}
+
+fn main() {
+    for operation in [reading(), writing(), normal_length(), normalising()] {
+        head(&operation);
+        let Some(call) = operation.library else {
+            println!("not in the archive yet");
+            continue;
+        };
+        for load in loads() {
+            let mut lent = Buffers::new(&load.message);
+            let times = measure(&mut lent, call, operation.second, store_words);
+            line(&load, &lent, &times);
+        }
+    }
+}

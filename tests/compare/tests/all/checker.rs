@@ -1,0 +1,170 @@
+//! One call of the library held against one of the second program: the whole
+//! answer, and all that is lent with a margin around it.
+
+use crate::lent::{Pair, Pattern};
+use crate::told;
+use compare::library::{self, Empty};
+use std::fmt::Debug;
+
+/// The buffers of both programs, and the first failure met.
+pub struct Checker {
+    message: Pair<u8>,
+    given: Pair<u64>,
+    table: Pair<u64>,
+    output: Pair<u8>,
+    pub calls: u64,
+    failure: Option<String>,
+}
+
+/// The ways to pass slices: both, if one of them is empty.
+fn ways(some_empty: bool) -> &'static [Empty] {
+    match some_empty {
+        true => &[Empty::AsNull, Empty::AsItIs],
+        false => &[Empty::AsItIs],
+    }
+}
+
+/// Lends the same contents to both programs.
+fn give<T: Pattern>(pair: &mut Pair<T>, contents: &[T]) {
+    pair.library.contents(contents);
+    pair.second.contents(contents);
+}
+
+impl Checker {
+    pub fn new() -> Box<Checker> {
+        Box::new(Checker {
+            message: Pair::new(),
+            given: Pair::new(),
+            table: Pair::new(),
+            output: Pair::new(),
+            calls: 0,
+            failure: None,
+        })
+    }
+
+    /// The table that the library was lent last, as it left it.
+    pub fn table(&self) -> &[u64] {
+        self.table.library.lent()
+    }
+
+    /// The output that the library was lent last, as it left it.
+    pub fn output(&self) -> &[u8] {
+        self.output.library.lent()
+    }
+
+    /// Fails with the first failure, if there was one.
+    pub fn must_agree(&self) {
+        if let Some(failure) = &self.failure {
+            panic!("{failure}");
+        }
+    }
+
+    /// Notes a failure unless something holds.
+    pub fn must(&mut self, holds: bool, told: impl FnOnce() -> String) {
+        if !holds && self.failure.is_none() {
+            self.failure = Some(told());
+        }
+    }
+
+    /// Holds the answers and all buffers of both programs against each other.
+    /// The call is told only if they differ.
+    fn compare<A: PartialEq + Debug>(
+        &mut self,
+        answer: &A,
+        expected: &A,
+        told: impl Fn() -> String,
+    ) {
+        self.calls += 1;
+        let given = self.message.agree() && self.given.agree();
+        let lent = self.table.agree() && self.output.agree();
+        if answer == expected && given && lent || self.failure.is_some() {
+            return;
+        }
+        let Checker {
+            message,
+            given,
+            table,
+            output,
+            ..
+        } = self;
+        let differences = [
+            message.difference("message"),
+            given.difference("given table"),
+            table.difference("table"),
+            output.difference("output"),
+        ];
+        let answers = format!("library {answer:?}\nsecond  {expected:?}\n");
+        self.must(false, || told() + &answers + &differences.concat());
+    }
+
+    #[cfg(has_read)]
+    pub fn reading(&mut self, message: &[u8], room: usize) -> second::Reading {
+        let expected = second::read(message, self.table.second.room(room));
+        give(&mut self.message, message);
+        let mut answer = expected;
+        for &empty in ways(message.is_empty() || room == 0) {
+            let table = self.table.library.room(room);
+            answer = library::read(self.message.library.lent(), table, empty);
+            self.compare(&answer, &expected, || {
+                let head = format!("\nreading, {room} words lent, empty slices {empty:?}");
+                format!("{head}\nmessage {}\n", told::bytes(message))
+            });
+        }
+        answer
+    }
+
+    #[cfg(has_write)]
+    pub fn writing(&mut self, table: &[u64], room: usize) -> second::Writing {
+        let expected = second::write(table, self.output.second.room(room));
+        give(&mut self.given, table);
+        let mut answer = expected;
+        for &empty in ways(table.is_empty() || room == 0) {
+            let output = self.output.library.room(room);
+            answer = library::write(self.given.library.lent(), output, empty);
+            self.compare(&answer, &expected, || {
+                let head = format!("\nwriting, {room} bytes lent, empty slices {empty:?}");
+                format!("{head}\ntable {}\n", told::words(table))
+            });
+        }
+        answer
+    }
+
+    #[cfg(has_normal_length)]
+    pub fn normal_length(&mut self, table: &[u64]) -> second::Writing {
+        let expected = second::normal_length(table);
+        give(&mut self.given, table);
+        let mut answer = expected;
+        for &empty in ways(table.is_empty()) {
+            answer = library::normal_length(self.given.library.lent(), empty);
+            self.compare(&answer, &expected, || {
+                let head = format!("\nnormal length, empty slices {empty:?}");
+                format!("{head}\ntable {}\n", told::words(table))
+            });
+        }
+        answer
+    }
+
+    #[cfg(has_normalise)]
+    pub fn normalising(
+        &mut self,
+        message: &[u8],
+        words: usize,
+        bytes: usize,
+    ) -> second::Normalising {
+        let (table, output) = (&mut self.table.second, &mut self.output.second);
+        let expected = second::normalise(message, table.room(words), output.room(bytes));
+        give(&mut self.message, message);
+        let mut answer = expected;
+        for &empty in ways(message.is_empty() || words == 0 || bytes == 0) {
+            let (table, output) = (&mut self.table.library, &mut self.output.library);
+            let from = self.message.library.lent();
+            answer = library::normalise(from, table.room(words), output.room(bytes), empty);
+            self.compare(&answer, &expected, || {
+                let lent = format!("{words} words and {bytes} bytes lent");
+                let head = format!("\nnormalising, {lent}, empty slices {empty:?}");
+                format!("{head}\nmessage {}\n", told::bytes(message))
+            });
+        }
+        answer
+    }
+}

@@ -1,0 +1,58 @@
+//! The rooms in which a message or a table is tried: ample, none, exactly what
+//! is needed, and one less.
+
+use crate::checker::Checker;
+
+/// Enough for every table.
+pub const AMPLE_WORDS: usize = 65_540;
+/// Enough for every normal form.
+pub const AMPLE_BYTES: usize = 65_536;
+/// Added to what is needed, or lent where a refusal is due at once.
+const MORE: usize = 40;
+
+/// The rooms to try. Nothing is needed where a refusal is due in any room.
+fn rooms(needed: usize) -> Vec<usize> {
+    match needed {
+        0 => vec![MORE, 0],
+        _ => vec![needed + MORE, 0, needed, needed - 1],
+    }
+}
+
+impl Checker {
+    #[cfg(has_read)]
+    pub fn reading_in_every_room(&mut self, message: &[u8]) {
+        let needed = second::read(message, &mut []).words as usize;
+        for room in rooms(needed) {
+            self.reading(message, room);
+        }
+    }
+
+    /// Writes in every room, and asks for the normal length.
+    #[cfg(any(has_write, has_normal_length))]
+    pub fn writing_in_every_room(&mut self, table: &[u64]) {
+        #[cfg(has_normal_length)]
+        self.normal_length(table);
+        #[cfg(has_write)]
+        for room in rooms(second::normal_length(table).length as usize) {
+            self.writing(table, room);
+        }
+    }
+
+    /// Every room for the table with ample output, and every room for the
+    /// output with just the table needed.
+    #[cfg(has_normalise)]
+    pub fn normalising_in_every_room(&mut self, message: &[u8]) {
+        let words = second::read(message, &mut []).words as usize;
+        for room in rooms(words) {
+            self.normalising(message, room, MORE);
+        }
+        if words == 0 {
+            return;
+        }
+        let mut table = vec![0; words];
+        let length = second::normalise(message, &mut table, &mut []).length as usize;
+        for room in rooms(length) {
+            self.normalising(message, words, room);
+        }
+    }
+}
