@@ -7,6 +7,7 @@ pub mod RowLaws
 pub mod PlainLaws
 pub mod ContainerLaws
 pub mod BitWords
+pub mod Stretches
 pub mod RowWalk
 pub mod WordWalk
 pub mod WholeLaws

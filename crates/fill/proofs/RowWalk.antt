@@ -1,34 +1,34 @@
 -- The walk of the rows: one turn of its loop, and one object of it. Assumes nothing.
-use Prim.Native.Nat.{ℕ, _+_, _-_, _*_, _%_, _≤_, _<_, zero-le}
+use Prim.Native.Nat.{ℕ, _+_, _-_, _*_, _≤_, _<_, zero-le}
 use native.Mathlib.Omega.{arith}
-use native.Mathlib.Nat.{add-zero}
-use mathlib.Core.Path.{_≡_, refl, sym, ap, ap₂, _∙_, subst}
-use mathlib.Core.List.{List, _++_, append-nil}
-use lib.ListN.{length, take, drop, getD, set, length-append}
+use mathlib.Core.Path.{_≡_, refl, sym, ap, ap₂, _∙_}
+use mathlib.Core.List.{List, _++_}
+use lib.ListN.{length, take, drop, getD, length-append}
 use lib.Seq.{length-take-le}
-use types.Run.{OneOf, hit}
+use types.Run.{OneOf}
 use denote.Enum.Declared.{tagOf}
 use Rattle.format.specs.Items.{Items, end, join}
 use Rattle.format.specs.Tables.{count, rows, dataWords, rowWords}
 use Rattle.format.specs.Objects.{headOf}
-use Rattle.format.specs.Messages.{says, got}
+use Rattle.format.specs.Messages.{says, got, onto, reads}
 use Rattle.format.specs.Answers.{over}
 use Rattle.format.proofs.Counts.{words, rows-join, count-join, words-join, row-words-join}
 use Rattle.format.proofs.TableLaws.{row-length}
 use Rattle.wire.proofs.head.Head.{the-type}
 use Rattle.wire.specs.declared.head.Head.{Head}
-use Rattle.wire.specs.declared.head.Head.the-variants.{Gap, Row, Open}
+use Rattle.wire.specs.declared.head.Head.the-variants.{Open}
 use Rattle.wire.specs.declared.head.Wrap.{Wrap}
 use Rattle.wire.specs.Heads.{HeadIs}
 use Rattle.fill.specs.declared.plain.Placed.{Placed}
 use Rattle.fill.specs.declared.rows.Filled.{Filled}
-use Rattle.fill.specs.Plain.{plainKind, plainRows, placedAs, plainPlaced}
+use Rattle.fill.specs.Plain.{plainRows, placedAs, plainPlaced}
 use Rattle.fill.specs.Containers.{copiesOf, ownWords, closed, closedPlaced, closedRows, Closable}
 use Rattle.fill.specs.Walks.{Fits, RunFits, ObjectFits, Laid, RunFilled, ObjectFilled}
-use Rattle.fill.proofs.Over.{over-none, over-self, over-length, part-length, grown, lent, set-row}
+use Rattle.fill.specs.Stretch.{Stretched}
+use Rattle.fill.proofs.Over.{over-none, over-length, part-length, grown, lent}
 use Rattle.fill.proofs.RowLaws.{count-rows}
-use Rattle.fill.proofs.Turns.{Passed, passed-none, passed-all, Ahead, ahead}
-use Rattle.fill.proofs.PlainLaws.{Shown, plain-tags, object-shown, plain-head, gap-head}
+use Rattle.fill.proofs.Turns.{onto-onto, Passed, passed-none, passed-all, Ahead, ahead}
+use Rattle.fill.proofs.PlainLaws.{Shown, plain-tags, object-shown}
 use Rattle.fill.proofs.ContainerLaws.{Opened, opened, closed-none, fits-inside, closable, closed-laid, closed-past}
 
 -- ---- one object
@@ -153,6 +153,50 @@ module _ (d : ℕ) (s : List ℕ) (base : ℕ) (t₀ t : List ℕ) (i r c w : �
   pub rows-end : length s ≤ i → RunFilled d s base t₀ t (record { rows = r; count = c; words = w })
   rows-end h = record { items = v .xs; said = passed-all d s (v .all) (v .xs) i h (v .passed); laid = v .laid }
 
+  -- a stretch further on
+  pub stretch-turn : (t′ : List ℕ) (e n : ℕ) → Stretched s i (3 * r) t t′ e n → RowsInv d s base t₀ t′ e (r + n) (c + n) w
+  stretch-turn t′ e n x =
+      let xs = v .xs in
+      let ys = x .items in
+      let x1 = x .from in
+      let x2 = x .rows-are in
+      let x3 = x .count-is in
+      let x4 = x .none in
+      let x5 = x .room in
+      let l1 = v .laid .rows-are in
+      let l2 = v .laid .count-is in
+      let l3 = v .laid .words-are in
+      let l4 = v .long in
+      let l5 = v .fewer in
+      let j1 = rows-join xs ys in
+      let j2 = count-join xs ys in
+      let j3 = words-join xs ys in
+      let k : i + (e - i) ≡ e = omega arith in
+      let a : 3 * r ≡ length (rowWords base xs) = omega (arith, row-length base xs) in
+      let p = v .passed in
+      record {
+        all = v .all;
+        xs = join xs ys;
+        fits = v .fits;
+        passed = record {
+          said = p .said;
+          so-far = p .so-far ∙ ap (onto xs i) (x .said d) ∙ onto-onto xs ys i (e - i) (reads d (drop e s)) ∙ ap (λ m. onto (join xs ys) m (reads d (drop e s))) k;
+          at = x .to;
+        };
+        laid = record {
+          rows-are = omega arith;
+          count-is = omega arith;
+          words-are = omega arith;
+          table-is = x .table-is (base + w) ∙ grown (rowWords base xs) (rowWords (base + w) ys) t₀ t (3 * r) (v .laid .table-is) a
+              ∙ ap (λ l. over l t₀) (ap (λ m. rowWords base xs ++ rowWords (base + m) ys) l3 ∙ sym (row-words-join base xs ys));
+        };
+        at = x .to;
+        room = omega arith;
+        fewer = omega arith;
+        few = v .few;
+        long = x .long ∙ v .long;
+      }
+
   module _ (b : ℕ) (h : i < length s) (e : b ≡ getD s i 0) where
     -- the bytes and the part of the table that the code lends on
     abbrev S : List ℕ
@@ -221,34 +265,3 @@ module _ (d : ℕ) (s : List ℕ) (base : ℕ) (t₀ t : List ℕ) (i r c w : �
             few = omega arith;
             long = ap length tb ∙ over-length (rowWords base (join xs ys)) t₀ (omega (arith, row-length base (join xs ys)));
           }
-
-    -- ---- one-byte objects
-    as-inv : (t′ t″ : List ℕ) (i′ i″ r′ r″ c′ c″ w′ w″ : ℕ) → t′ ≡ t″ → i′ ≡ i″ → r′ ≡ r″ → c′ ≡ c″ → w′ ≡ w″
-        → RowsInv d s base t₀ t′ i′ r′ c′ w′ → RowsInv d s base t₀ t″ i″ r″ c″ w″
-    as-inv t′ t″ i′ i″ r′ r″ c′ c″ w′ w″ a b e f g x = rw (← a, ← b, ← e, ← f, ← g) x
-
-    written : (h : Head) → OneOf plain-tags (tagOf the-type h) → HeadIs S h (headOf d b S)
-        → RowsInv d s base t₀ (over (take (3 * r) t ++ plainRows S (base + w) h) t) (i + 1 + plainPlaced h .past) (r + plainPlaced h .rows) (c + plainPlaced h .count) (w + plainPlaced h .words)
-    written x k q =
-        let l = v .long in
-        let m = v .room in
-        let g = plain-filled d b S (base + w) P here-fits x k q (plainPlaced x) (over (plainRows S (base + w) x) P) refl refl in
-        subst (λ z. RowsInv d s base t₀ z (i + 1 + plainPlaced x .past) (r + plainPlaced x .rows) (c + plainPlaced x .count) (w + plainPlaced x .words))
-        (lent (3 * r) (plainRows S (base + w) x) t (over (plainRows S (base + w) x) P) (omega arith) refl)
-        (rows-more (plainPlaced x) (over (plainRows S (base + w) x) P) g)
-
-    pub gap-turn : b ≡ 0xff → RowsInv d s base t₀ t (i + 1) r c w
-    unfolding plainRows plainPlaced
-    gap-turn q =
-        let x = written Gap (hit plain-tags 1 tt) (gap-head d b S q) in
-        as-inv _ t _ (i + 1) _ r _ c _ w (ap (λ l. over l t) (append-nil (take (3 * r) t)) ∙ over-self (3 * r) t) (add-zero (i + 1)) (add-zero r) (add-zero c) (add-zero w) x
-
-    pub plain-turn : b < 0xc0 → (3 * r + 3 ≤ length t)
-        × RowsInv d s base t₀ (set (set (set t (3 * r) (plainKind b)) (3 * r + 1) 0) (3 * r + 2) (b % 128)) (i + 1) (r + 1) (c + 1) w
-    unfolding plainRows plainPlaced
-    plain-turn q =
-        let x = written (Row (plainKind b) (b % 128) 0) (hit plain-tags 2 tt) (plain-head d b S q) in
-        let m = x .room in
-        let l = v .long in
-        let room : 3 * r + 3 ≤ length t = omega arith in
-        (room, as-inv _ _ _ (i + 1) _ (r + 1) _ (c + 1) _ w (sym (set-row (3 * r) t (plainKind b) 0 (b % 128) room)) (add-zero (i + 1)) refl refl (add-zero w) x)

@@ -14,17 +14,17 @@ use Rattle.format.proofs.Parts.{rest-part}
 use Rattle.format.proofs.Steps.{reads-nil, reads-cons, objectAt}
 use Rattle.fill.proofs.WithinLaws.{got-within}
 
-onto-none : (o : Outcome) → o ≡ onto end 0 o
+pub onto-none : (o : Outcome) → o ≡ onto end 0 o
 unfolding onto join further
 onto-none (refused f) = ap refused (ap (λ p. record { number = f .number; place = p }) (omega arith))
 onto-none (says xs) = refl
 
-onto-onto : (xs ys : Items) (i n : ℕ) (o : Outcome) → onto xs i (onto ys n o) ≡ onto (join xs ys) (i + n) o
+pub onto-onto : (xs ys : Items) (i n : ℕ) (o : Outcome) → onto xs i (onto ys n o) ≡ onto (join xs ys) (i + n) o
 unfolding onto further
 onto-onto xs ys i n (refused f) = ap refused (ap (λ p. record { number = f .number; place = p }) (omega arith))
 onto-onto xs ys i n (says zs) = ap says (sym (join-assoc xs ys zs))
 
-onto-said : (xs : Items) (i : ℕ) (o : Outcome) (all : Items) → onto xs i o ≡ says all → (zs : Items) × (all ≡ join xs zs)
+pub onto-said : (xs : Items) (i : ℕ) (o : Outcome) (all : Items) → onto xs i o ≡ says all → (zs : Items) × (all ≡ join xs zs)
 unfolding onto
 onto-said xs i (refused f) all e = let z : _≡_ {A = ℕ} 0 1 = cc in absurd (omega arith)
 onto-said xs i (says zs) all e = (zs, cc)
@@ -33,6 +33,13 @@ next-said : (xs : Items) (i : ℕ) (x : Object) (r : ℕ → Outcome) (all : Ite
 unfolding next onto
 next-said xs i (bad f) r all e = let z : _≡_ {A = ℕ} 0 1 = cc in absurd (omega arith)
 next-said xs i (got ys u) r all e = (ys, u, refl)
+
+-- the object at i, and then what is said past it
+pub turn-at : (d : ℕ) (s : List ℕ) (i : ℕ) → i < length s → reads d (drop i s) ≡ next (objectAt d (getD s i 0) (drop (i + 1) s)) (λ u. reads d (drop (i + 1 + u) s))
+turn-at d s i h =
+    rw (drop-cons s i 0, add-one i)
+    (reads-cons d (getD s i 0) (drop (suc i) s)
+    ∙ ap (next (objectAt d (getD s i 0) (drop (suc i) s))) (fun-ext (λ u. ap (reads d) (drop-drop u (suc i) s))))
 
 -- xs stand before i in a run that says `all`
 pub record Passed (d : ℕ) (s : List ℕ) (all xs : Items) (i : ℕ) : Type 0 where
@@ -58,38 +65,29 @@ pub record Ahead (d : ℕ) (s : List ℕ) (all xs : Items) (i b : ℕ) : Type 0 
 
 module _ (d : ℕ) (s : List ℕ) (all xs : Items) (i b : ℕ) (p : Passed d s all xs i) (h : i < length s) (e : b ≡ getD s i 0) where
   turn : reads d (drop i s) ≡ next (objectAt d b (drop (i + 1) s)) (λ u. reads d (drop (i + 1 + u) s))
-  turn =
-      rw (drop-cons s i 0, add-one i, e)
-      (reads-cons d (getD s i 0) (drop (suc i) s)
-      ∙ ap (next (objectAt d (getD s i 0) (drop (suc i) s))) (fun-ext (λ u. ap (reads d) (drop-drop u (suc i) s))))
-
-  -- the run, with the object at i apart
-  apart : reads d s ≡ onto xs i (next (objectAt d b (drop (i + 1) s)) (λ u. reads d (drop (i + 1 + u) s)))
-  apart = p .so-far ∙ ap (onto xs i) turn
-
-  given : (ys : Items) × (u : ℕ) × (objectAt d b (drop (i + 1) s) ≡ got ys u)
-  given = next-said xs i (objectAt d b (drop (i + 1) s)) (λ u. reads d (drop (i + 1 + u) s)) all (sym apart ∙ p .said)
-
-  beyond : reads d s ≡ onto (join xs (given .0)) (i + 1 + given .1) (reads d (drop (i + 1 + given .1) s))
-  unfolding next
-  beyond =
-      let a : i + (1 + given .1) ≡ i + 1 + given .1 = omega arith in
-      apart ∙ ap (λ x. onto xs i (next x (λ v. reads d (drop (i + 1 + v) s)))) (given .2)
-      ∙ onto-onto xs (given .0) i (1 + given .1) (reads d (drop (i + 1 + given .1) s))
-      ∙ ap (λ n. onto (join xs (given .0)) n (reads d (drop (i + 1 + given .1) s))) a
+  turn = rw e (turn-at d s i h)
 
   pub ahead : Ahead d s all xs i b
+  unfolding next
   ahead =
-      let z = onto-said (join xs (given .0)) (i + 1 + given .1) (reads d (drop (i + 1 + given .1) s)) all (sym beyond ∙ p .said) in
+      let so = p .so-far ∙ ap (onto xs i) turn in
+      let q = next-said xs i (objectAt d b (drop (i + 1) s)) (λ u. reads d (drop (i + 1 + u) s)) all (sym so ∙ p .said) in
+      let ys = q .0 in
+      let u = q .1 in
+      let a : i + (1 + u) ≡ i + 1 + u = omega arith in
+      let on : reads d s ≡ onto (join xs ys) (i + 1 + u) (reads d (drop (i + 1 + u) s)) =
+      so ∙ ap (λ x. onto xs i (next x (λ v. reads d (drop (i + 1 + v) s)))) (q .2) ∙ onto-onto xs ys i (1 + u) (reads d (drop (i + 1 + u) s))
+      ∙ ap (λ n. onto (join xs ys) n (reads d (drop (i + 1 + u) s))) a in
+      let z = onto-said (join xs ys) (i + 1 + u) (reads d (drop (i + 1 + u) s)) all (sym on ∙ p .said) in
       record {
-        ys = given .0;
+        ys = ys;
         zs = z .0;
-        past = given .1;
-        here = rw (rest-part s (i + 1)) (given .2);
+        past = u;
+        here = rw (rest-part s (i + 1)) (q .2);
         rest = z .1;
         further = record {
           said = p .said;
-          so-far = beyond;
-          at = omega (arith, got-within d b (drop (i + 1) s) (given .0) (given .1) (given .2), length-drop (i + 1) s);
+          so-far = on;
+          at = omega (arith, got-within d b (drop (i + 1) s) ys u (q .2), length-drop (i + 1) s);
         };
       }

@@ -2,7 +2,6 @@
 use Prim.Native.Nat.{ℕ, _+_, _*_, _≤_, _<_}
 use mathlib.Core.List.{List, [], _∷_}
 use lib.ListN.{take}
-use Rattle.format.specs.Refusals.{wordLimit}
 use Rattle.format.specs.Items.{struc, edt, Items, end, group, times}
 use Rattle.format.specs.Answers.{over}
 use Rattle.wire.specs.declared.head.Wrap.{Wrap}
@@ -56,4 +55,4 @@ unfoldable pub Closable : Wrap → Filled → ℕ → Type 0
 Closable Struc f len = 3 * (f .rows + 1) ≤ len
 Closable Ustruc f len = 3 * (f .rows + 1) ≤ len
 Closable Edt f len = 3 * (f .rows + 1) ≤ len
-Closable (Repeat k) f len = (0 < k) × (3 * (k * f .rows) ≤ len) × (k * f .count ≤ len) × (k * f .words ≤ wordLimit)
+Closable (Repeat k) f len = (0 < k) × (3 * (k * f .rows) ≤ len) × (k * f .count ≤ len) × (k * f .words ≤ 16384)

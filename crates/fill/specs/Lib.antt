@@ -3,3 +3,4 @@ pub mod Plain
 pub mod Containers
 pub mod Walks
 pub mod Whole
+pub mod Stretch

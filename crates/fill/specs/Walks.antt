@@ -3,7 +3,6 @@ use Prim.Native.Nat.{ℕ, _+_, _*_, _≤_}
 use mathlib.Core.Path.{_≡_}
 use mathlib.Core.List.{List}
 use lib.ListN.{length}
-use Rattle.format.specs.Refusals.{wordLimit}
 use Rattle.format.specs.Items.{Items}
 use Rattle.format.specs.Messages.{says, got, reads}
 use Rattle.format.specs.Tables.{rows, count, dataWords, rowWords}
@@ -13,9 +12,9 @@ use Rattle.fill.specs.declared.plain.Placed.{Placed}
 use Rattle.fill.specs.declared.plain.Stored.{Stored}
 use Rattle.fill.specs.declared.rows.Filled.{Filled}
 
--- the table has room for the rows, and the data words with the `base` before them keep to the limit
+-- the table has room for the rows of items with `base` data words before them, and few data words are counted
 abbrev pub Fits : Items → ℕ → ℕ → Type 0
-Fits xs base len = (3 * rows xs ≤ len) × (base + length (dataWords xs) ≤ wordLimit)
+Fits xs base len = (3 * rows xs ≤ len) × (base + length (dataWords xs) ≤ 16384)
 
 -- the run is accepted, and fits
 pub record RunFits (d : ℕ) (s : List ℕ) (base len : ℕ) : Type 0 where
@@ -29,7 +28,7 @@ pub record ObjectFits (d b : ℕ) (s : List ℕ) (base len : ℕ) : Type 0 where
   pub said : objectAt d b s ≡ got items past
   pub fits : Fits items base len
 
--- the rows of items stand over the front of the table: how many rows, items and data words, and the table afterwards
+-- the rows of items stand there, so many, of so many items, with so many data words
 pub record Laid (xs : Items) (base : ℕ) (t t′ : List ℕ) (r c w : ℕ) : Type 0 where
   pub rows-are : r ≡ rows xs
   pub count-is : c ≡ count xs
@@ -46,7 +45,7 @@ pub record ObjectFilled (d b : ℕ) (s : List ℕ) (base : ℕ) (t t′ : List �
   pub said : objectAt d b s ≡ got items (r .past)
   pub laid : Laid items base t t′ (r .rows) (r .count) (r .words)
 
--- the same of the data words: the run is accepted, and the table has room for them
+-- the same of the data words
 pub record RunRoom (d : ℕ) (s : List ℕ) (len : ℕ) : Type 0 where
   pub items : Items
   pub said : reads d s ≡ says items

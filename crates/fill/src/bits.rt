@@ -1,6 +1,6 @@
 // The data words of a BITS.
 ghost use mathlib.Core.Path.{_≡_};
-ghost use Prim.Native.Nat.{_≤_, _<_, min};
+ghost use Prim.Native.Nat.{_+_, _*_, _≤_, _<_, min};
 ghost use lib.ListN.{length, take};
 ghost use Rattle.format.specs.Bits.{spread, adjusted, packed, bytesFor, wordsFor};
 ghost use Rattle.format.specs.Answers.{over};

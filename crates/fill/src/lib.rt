@@ -11,6 +11,7 @@ mod bits;
 mod copies;
 mod plain;
 mod rows;
+mod stretch;
 mod words;
 
 use rows::fill_run;

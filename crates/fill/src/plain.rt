@@ -1,10 +1,10 @@
 // Objects that are no containers: their rows, and their data words.
 ghost use mathlib.Core.Path.{_≡_};
-ghost use Prim.Native.Nat.{_*_, _≤_};
+ghost use Prim.Native.Nat.{_+_, _*_, _%_, _≤_, _<_};
 ghost use mathlib.Core.List.{_∷_, []};
-ghost use lib.ListN.{length};
+ghost use lib.ListN.{length, take, drop};
 ghost use Rattle.format.specs.Answers.{over};
-ghost use Rattle.fill.specs.Plain.{Apt, charRows, plainKind, plainRows, plainWords, plainPlaced, plainStored};
+ghost use Rattle.fill.specs.Plain.{Apt, charRows, plainRows, plainWords, plainPlaced, plainStored};
 use super::bits::put_bits;
 use wire::head::Head;
 
@@ -20,13 +20,6 @@ pub struct Placed {
 pub struct Stored {
     pub words: usize,
     pub past: usize,
-}
-
-// The kind of a one-byte item: CHAR below 80, and from there on INT.
-pub fn plain_kind(b: u8) -> u64
-    ensures { λ r. ⌜ r ≡ plainKind b ⌝ }
-{
-    if b < 0x80 { 3 } else { 1 }
 }
 
 pub fn put_row(table: &mut [u64], kind: u64, a: u64, b: u64)
@@ -50,18 +43,6 @@ fn put_characters(c: &[u8], table: &mut [u64])
         table[at + 1] = 0;
         table[at + 2] = (c[i] % 128) as u64;
         i += 1;
-    }
-}
-
-// One item, of so many rows and data words.
-fn one_item(rows: usize, words: usize, past: usize) -> Placed
-    ensures { λ r. ⌜ r ≡ record { rows = rows; count = 1; words = words; past = past } ⌝ }
-{
-    Placed {
-        rows,
-        count: 1,
-        words,
-        past,
     }
 }
 
@@ -95,6 +76,17 @@ pub fn put_plain(h: Head, s: &[u8], base: usize, table: &mut [u64]) -> Placed
             words: 0,
             past: 0,
         },
+    }
+}
+
+fn one_item(rows: usize, words: usize, past: usize) -> Placed
+    ensures { λ r. ⌜ r ≡ record { rows = rows; count = 1; words = words; past = past } ⌝ }
+{
+    Placed {
+        rows,
+        count: 1,
+        words,
+        past,
     }
 }
 

@@ -1,17 +1,17 @@
 // The walk of the rows: an object and a run of objects call each other, and the bytes left fall.
 ghost use mathlib.Core.Path.{_≡_};
 ghost use Prim.Native.Nat.{_+_, _*_, _≤_, _<_};
-ghost use mathlib.Core.List.{_∷_, []};
 ghost use lib.ListN.{length};
 ghost use Rattle.format.specs.Answers.{over};
+ghost use mathlib.Core.List.{_∷_, []};
 ghost use Rattle.fill.specs.Containers.{ownWords, closedGroup, Closable, closedRows, closedPlaced};
 ghost use Rattle.fill.specs.Walks.{RunFits, ObjectFits, RunFilled, ObjectFilled};
 use super::copies::copies_of;
 use super::copies::copy_rows;
 use super::plain::Placed;
-use super::plain::plain_kind;
 use super::plain::put_plain;
 use super::plain::put_row;
+use super::stretch::put_stretch;
 use wire::head::Head;
 use wire::head::Wrap;
 use wire::head::head_of;
@@ -33,7 +33,6 @@ fn own_words(w: Wrap) -> usize
     }
 }
 
-// The row of a container whose elements are written behind it.
 fn put_group(kind: u64, f: Filled, past: usize, table: &mut [u64]) -> Placed
     requires { ⌜ 3 * (f .rows + 1) ≤ length (now table) ⌝ }
     ensures { λ r. ⌜ (r ≡ closedGroup f past) × (now (table .exit) ≡ over (kind ∷ f .count ∷ f .rows ∷ []) (now (table .entry))) ⌝ }
@@ -47,7 +46,7 @@ fn put_group(kind: u64, f: Filled, past: usize, table: &mut [u64]) -> Placed
     }
 }
 
-// What a container makes of its elements' rows, which stand behind the place of its own: its row, or the repeat's further copies.
+// A container whose elements stand behind the place of its own row.
 fn close(w: Wrap, f: Filled, past: usize, table: &mut [u64]) -> Placed
     requires { ⌜ Closable w f (length (now table)) ⌝ }
     ensures { λ r. ⌜ (r ≡ closedPlaced w f past) × (now (table .exit) ≡ closedRows w f (now (table .entry))) ⌝ }
@@ -68,8 +67,7 @@ fn close(w: Wrap, f: Filled, past: usize, table: &mut [u64]) -> Placed
     }
 }
 
-// The rows of the object whose type-byte is b; s are the bytes behind it, up to the end of the enclosing object. Each container
-// around it has a byte before s, so that `depth` and the bytes left stay within a message's length.
+// The rows of the object whose type-byte is b; s are the bytes behind it, up to the end of the enclosing object.
 fn fill_object(depth: usize, b: u8, s: &[u8], base: usize, table: &mut [u64]) -> Placed
     requires { ⌜ (depth + length (now s) < 65536) × ObjectFits depth b (now s) base (length (now table)) ⌝ }
     ensures { λ r. ⌜ ObjectFilled depth b (now (s .entry)) base (now (table .entry)) (now (table .exit)) r ⌝ }
@@ -78,7 +76,6 @@ fn fill_object(depth: usize, b: u8, s: &[u8], base: usize, table: &mut [u64]) ->
     match h {
         Head::Open(w, a, n) => {
             let e = a + n;
-            // The rows of a pattern that stands there no time may be more than the table holds.
             if copies_of(w) == 0 {
                 return Placed {
                     rows: 0,
@@ -87,7 +84,6 @@ fn fill_object(depth: usize, b: u8, s: &[u8], base: usize, table: &mut [u64]) ->
                     past: e,
                 };
             }
-            // The elements' rows go straight into the part of the table behind the container's own row.
             let own = own_words(w);
             let f = fill_run(depth + 1, &s[a..e], base, &mut table[own..]);
             close(w, f, e, table)
@@ -106,21 +102,16 @@ pub fn fill_run(depth: usize, s: &[u8], base: usize, table: &mut [u64]) -> Fille
     let mut count: usize = 0;
     let mut words: usize = 0;
     while i < s.len() {
+        let l = put_stretch(s, i, table, 3 * rows);
+        i = l.upto;
+        rows += l.rows;
+        count += l.rows;
+        if i >= s.len() {
+            continue;
+        }
         let b = s[i];
         i += 1;
         let used = 3 * rows;
-        // One-byte items, the most frequent objects, are written at once.
-        if b < 0xc0 {
-            table[used] = plain_kind(b);
-            table[used + 1] = 0;
-            table[used + 2] = (b % 128) as u64;
-            rows += 1;
-            count += 1;
-            continue;
-        }
-        if b == 0xff {
-            continue;
-        }
         let o = fill_object(depth, b, &s[i..], base + words, &mut table[used..]);
         rows += o.rows;
         count += o.count;

@@ -1,4 +1,5 @@
 // The walk of the data words, in the order of the rows.
+ghost use mathlib.Core.Path.{_≡_};
 ghost use Prim.Native.Nat.{_+_, _≤_, _<_};
 ghost use lib.ListN.{length};
 ghost use Rattle.fill.specs.Walks.{RunRoom, ObjectRoom, RunStored, ObjectStored};
@@ -43,7 +44,6 @@ pub fn data_run(depth: usize, s: &[u8], table: &mut [u64]) -> usize
     while i < s.len() {
         let b = s[i];
         i += 1;
-        // One-byte items and padding have no data words.
         if b < 0xc0 {
             continue;
         }

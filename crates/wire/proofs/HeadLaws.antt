@@ -102,14 +102,21 @@ pub linteger-stop : (d b k n : ℕ) (s : List ℕ) → k ≡ O.following b → l
 unfolding O.headBy
 linteger-stop d b k n s ek h e = fixed-stop d (O.following b) s O.lintegerHead n (rw ek at h) e
 
-pub linteger-row : (d b k v : ℕ) (s : List ℕ) → k ≡ O.following b → k ≤ length s → v ≡ twos 8 (O.integer (take k s)) → HeadIs s (Row 1 v k) (O.headBy C.Linteger d b s)
+-- the item of an LINTEGER whose bytes are there, and its row
+abbrev pub linteger-leaf : ℕ → List ℕ → Leaf
+linteger-leaf k s = int (O.integer (take k s))
+
+pub linteger-head : (d b k : ℕ) (s : List ℕ) → k ≡ O.following b → k ≤ length s → O.headBy C.Linteger d b s ≡ O.gives (one (linteger-leaf k s)) k
 unfolding O.headBy O.lintegerHead
-linteger-row d b k v s ek h ev = (
-  int (O.integer (take k s)),
-  ap (λ j. O.fixed d j s O.lintegerHead) (sym ek) ∙ fixed-go d k s O.lintegerHead h
-      ∙ ap (λ j. O.gives (one (int (O.integer (take k s)))) j) (length-take-le k s h),
-  int-row (O.integer (take k s)) v (sym ev),
-)
+linteger-head d b k s ek h =
+    ap (λ j. O.fixed d j s O.lintegerHead) (sym ek) ∙ fixed-go d k s O.lintegerHead h
+    ∙ ap (λ j. O.gives (one (linteger-leaf k s)) j) (length-take-le k s h)
+
+pub linteger-is : (k v : ℕ) (s : List ℕ) → v ≡ twos 8 (O.integer (take k s)) → IsRow (linteger-leaf k s) 1 v
+linteger-is k v s ev = int-row (O.integer (take k s)) v (sym ev)
+
+pub linteger-row : (d b k v : ℕ) (s : List ℕ) → k ≡ O.following b → k ≤ length s → v ≡ twos 8 (O.integer (take k s)) → HeadIs s (Row 1 v k) (O.headBy C.Linteger d b s)
+linteger-row d b k v s ek h ev = (linteger-leaf k s, linteger-head d b k s ek h, linteger-is k v s ev)
 
 pub sbitstr-stop : (d b k n : ℕ) (s : List ℕ) → k ≡ O.following b → length s < k → n ≡ O.past d → HeadIs s (Stop n 0) (O.headBy C.Sbitstr d b s)
 unfolding O.headBy

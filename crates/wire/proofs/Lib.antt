@@ -3,3 +3,5 @@ pub mod Integers
 pub mod Leadings
 pub mod ShortBits
 pub mod HeadLaws
+pub mod RowsAt
+pub mod Ranges

@@ -1,5 +1,5 @@
 -- What the code's answers about one object say of its meaning.
-use Prim.Native.Nat.{ℕ, _+_, _-_, _^_, _≤_, _<_}
+use Prim.Native.Nat.{ℕ, _+_, _-_, _%_, _^_, _≤_, _<_}
 use mathlib.Core.Path.{_≡_}
 use mathlib.Core.Logic.{_≢_}
 use mathlib.Core.Bool.{Bool}
@@ -46,6 +46,10 @@ unfolding ifLt O.following O.integer twos
 lintegerAt s i b =
     ifLt (length s - (i + 1)) (O.following b) (L.Short i) (L.Found (twos 8 (O.integer (take (O.following b) (drop (i + 1) s)))) (i + 1 + O.following b))
 
+-- where k is not 0, b is an LINTEGER's type-byte that asks for k bytes, and of `left` bytes they are there
+abbrev pub LongPast : ℕ → ℕ → ℕ → Type 0
+LongPast b left k = 0 < k → (0xe0 ≤ b) × (b ≤ 0xe7) × (k ≡ O.following b) × (k ≤ left)
+
 -- a container's contents, whatever it makes of them
 abbrev pub ContainedIs : ℕ → List ℕ → Contained → Type 0
 ContainedIs d s (Outside n) = (f : ℕ → ℕ → O.Head) → O.container d (O.sized d s f) ≡ O.stop (at 0 n)
@@ -72,6 +76,21 @@ pub record IsRow (l : Leaf) (k v : ℕ) : Type 0 where
   pub first : leafA l ≡ 0
   pub last : (d : ℕ) → leafB d l ≡ v
   pub none : leafWords l ≡ []
+
+-- the row of a one-byte item from F8 to FE
+unfoldable pub lateKind : ℕ → ℕ
+unfolding ifLt
+lateKind b = ifLt b 0xfc 6 (ifLt b 0xfe 4 5)
+
+unfoldable pub lateValue : ℕ → ℕ
+unfolding ifLt
+lateValue b = ifLt b 0xfc (b % 4) (ifLt b 0xfe (b % 2) 0)
+
+-- an object of the type-byte b is one item with such a row, and has u bytes past the type-byte, however deep it stands
+pub record RowAt (b : ℕ) (s : List ℕ) (k v u : ℕ) : Type 0 where
+  pub leaf : Leaf
+  pub head : (d : ℕ) → O.headOf d b s ≡ O.gives (one leaf) u
+  pub row : IsRow leaf k v
 
 -- n bits, at most 63, left-adjusted in the word w
 pub record IsShort (bs : List Bool) (n w : ℕ) : Type 0 where

@@ -1,2 +1,3 @@
 pub mod Extents
 pub mod Heads
+pub mod Ranges

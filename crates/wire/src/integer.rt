@@ -4,7 +4,7 @@ ghost use Prim.Native.Nat.{_+_, _*_, _^_, _≤_, _<_};
 ghost use lib.ListN.{length, take, drop};
 ghost use Rattle.format.specs.Numbers.{val, twos};
 ghost use Rattle.format.specs.Objects.{following, integer};
-ghost use Rattle.wire.specs.Heads.{LeadingIs, Unpadded, lintegerAt};
+ghost use Rattle.wire.specs.Heads.{LeadingIs, Unpadded, lintegerAt, LongPast};
 use format::Class;
 use format::class_of;
 
@@ -30,6 +30,24 @@ pub fn following_of(b: u8) -> usize
         return 8;
     }
     low as usize
+}
+
+// The data bytes of an LINTEGER by its type-byte b, where `left` bytes stand behind it; 0 where b is no LINTEGER's, or they are
+// not all there.
+pub fn long_past(b: u8, left: usize) -> usize
+    ensures { λ r. ⌜ LongPast b left r ⌝ }
+{
+    if b < 0xe0 {
+        return 0;
+    }
+    if b > 0xe7 {
+        return 0;
+    }
+    let k = following_of(b);
+    if left < k {
+        return 0;
+    }
+    k
 }
 
 // The number that the first k bytes make, high byte first.

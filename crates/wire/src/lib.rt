@@ -1,4 +1,6 @@
 // What stands at one object's type-byte, read from the bytes. Nothing here goes into contents.
 pub mod head;
 pub mod integer;
+pub mod late;
+pub mod padding;
 pub mod size;

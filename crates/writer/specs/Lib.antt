@@ -1,3 +1,4 @@
+-- What the contracts cite beside the meanings: rows by position, the parts of a normal form, lengths and room, the verdict on a table.
 pub mod Rows
 pub mod Forms
 pub mod Measures

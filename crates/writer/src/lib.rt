@@ -20,7 +20,7 @@ pub struct Written {
 }
 
 // What is known of a table before there is an output: a refusal's number, or the length of the normal form.
-pub enum Verdict {
+enum Verdict {
     Refused(usize),
     Normal(usize),
 }

@@ -8,22 +8,16 @@ put-rows-requires : tie.Need-put-rows-requires
 put-rows-requires c κs = search needs
 
 put-words-requires : tie.Need-put-words-requires
-put-words-requires c κs =
-    let s = c .before .before .before .before .before .before .before in
-    (s .pre .0, still-roomy _ _ _ (s .args .table .now) (s .pre .1) _ _ (c .before .before .before .put-rows .ensures))
+put-words-requires c κs = (c .before .before .before .before .before .before .before .pre .0, still-roomy (c .before .before .before .before .before .before .before .args .message .now) (c .before .before .before .before .before .before .before .args .rows) (c .before .before .before .before .before .before .before .args .words) (c .before .before .before .before .before .before .before .args .table .now) (c .before .before .before .before .before .before .before .pre .1) _ _ (c .before .before .before .put-rows .ensures))
 
 put-header-requires : tie.Need-put-header-requires
-put-header-requires c κs =
-    let s = c .before .before .before .before .before .before .before .before .before .before .before in
-    header-room _ _ _ (s .args .table .now) (s .pre .1) _ _ (c .before .before .before .before .before .before .before .put-rows .ensures) _ (c .before .before .before .put-words .ensures)
+put-header-requires c κs = header-room (c .before .before .before .before .before .before .before .before .before .before .before .args .message .now) (c .before .before .before .before .before .before .before .before .before .before .before .args .rows) (c .before .before .before .before .before .before .before .before .before .before .before .args .words) (c .before .before .before .before .before .before .before .before .before .before .before .args .table .now) (c .before .before .before .before .before .before .before .before .before .before .before .pre .1) _ _ (c .before .before .before .before .before .before .before .put-rows .ensures) _ (c .before .before .before .put-words .ensures)
 
 same-length : tie.Need-same-length
 same-length c = search needs
 
 returns : tie.Need-returns
-returns c =
-    let s = c .before .before .before .before .before .before .before .before .before .before .before .before .before .before in
-    whole _ _ _ (s .args .table .now) (s .pre .1) _ _ (c .before .before .before .before .before .before .before .before .before .before .put-rows .ensures) _ (c .before .before .before .before .before .before .put-words .ensures) _ (c .before .before .put-header .ensures)
+returns c = whole (c .before .before .before .before .before .before .before .before .before .before .before .before .before .before .args .message .now) (c .before .before .before .before .before .before .before .before .before .before .before .before .before .before .args .rows) (c .before .before .before .before .before .before .before .before .before .before .before .before .before .before .args .words) (c .before .before .before .before .before .before .before .before .before .before .before .before .before .before .args .table .now) (c .before .before .before .before .before .before .before .before .before .before .before .before .before .before .pre .1) _ _ (c .before .before .before .before .before .before .before .before .before .before .put-rows .ensures) _ (c .before .before .before .before .before .before .put-words .ensures) _ (c .before .before .put-header .ensures)
 
 pub fill-spec : {M : Type 1} → statement M
 fill-spec =

@@ -6,30 +6,22 @@ use Rattle.fill.proofs.put_rows.Statement.{statement}
 use Rattle.fill.proofs.put_rows.Tie as tie
 
 sub-fill-run : tie.Need-sub-fill-run
-sub-fill-run c =
-    let s = c .before .before in
-    rows-fit _ _ _ (s .args .table .now) (s .pre .1) .0
+sub-fill-run c = rows-fit (c .before .before .args .message .now) (c .before .before .args .rows) (c .before .before .args .words) (c .before .before .args .table .now) (c .before .before .pre .1) .0
 
 part-fill-run-start : tie.Need-part-fill-run-start
-part-fill-run-start c =
-    let s = c .before .before in
-    rows-fit _ _ _ (s .args .table .now) (s .pre .1) .0
+part-fill-run-start c = rows-fit (c .before .before .args .message .now) (c .before .before .args .rows) (c .before .before .args .words) (c .before .before .args .table .now) (c .before .before .pre .1) .0
 
 part-fill-run-end : tie.Need-part-fill-run-end
 part-fill-run-end c = search needs
 
 fill-run-requires : tie.Need-fill-run-requires
-fill-run-requires c κs =
-    let s = c .before .before .before in
-    (omega arith, rows-fit _ _ _ (s .args .table .now) (s .pre .1) .1)
+fill-run-requires c κs = (omega arith, rows-fit (c .before .before .before .args .message .now) (c .before .before .before .args .rows) (c .before .before .before .args .words) (c .before .before .before .args .table .now) (c .before .before .before .pre .1) .1)
 
 same-length : tie.Need-same-length
 same-length c = search needs
 
 returns : tie.Need-returns
-returns c =
-    let s = c .before .before .before .before .before .before in
-    rows-put _ _ _ (s .args .table .now) (s .pre .1) _ _ (c .before .before .fill-run .ensures)
+returns c = rows-put (c .before .before .before .before .before .before .args .message .now) (c .before .before .before .before .before .before .args .rows) (c .before .before .before .before .before .before .args .words) (c .before .before .before .before .before .before .args .table .now) (c .before .before .before .before .before .before .pre .1) _ _ (c .before .before .fill-run .ensures)
 
 pub put-rows-spec : {M : Type 1} → statement M
 put-rows-spec =

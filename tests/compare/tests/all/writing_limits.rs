@@ -208,9 +208,9 @@ fn widths_and_sizes() {
     let shifts = (0..64).flat_map(|shift| {
         [
             1i64 << shift,
-            (1 << shift) - 1,
+            (1i64 << shift).wrapping_sub(1),
             -1 << shift,
-            !(-1 << shift) - 1,
+            (!(-1i64 << shift)).wrapping_sub(1),
         ]
     });
     let mut items: Vec<Item> = shifts.map(Item::Int).collect();

@@ -67,14 +67,12 @@ loop-less c = search needs
 loop-again : tie.Need-loop-again Inv-loop μ-loop
 unfolding wordsFor
 loop-again c =
-    let s = c .before .before .before .before .before .before .before .args in
-    let l = c .before .before .before .before .loop in
     let e = c .before .at-most-64 .ensures in (
       refl,
       omega arith,
-      simp length-set (l .inv .2),
-      word-turn (s .c .now) (s .n) (s .table .now) (l .table) (l .j) _ (omega arith) (l .inv .3)
-          (c .word-of .ensures ∙ ap (λ m. adjusted 64 (take m (spread 8 (take (length (s .c .now) - 8 * l .j) (drop (8 * l .j) (s .c .now)))))) e),
+      simp length-set (c .before .before .before .before .loop .inv .2),
+      word-turn (c .before .before .before .before .before .before .before .args .c .now) (c .before .before .before .before .before .before .before .args .n) (c .before .before .before .before .before .before .before .args .table .now) (c .before .before .before .before .loop .table) (c .before .before .before .before .loop .j) _ (omega arith) (c .before .before .before .before .loop .inv .3)
+          (c .word-of .ensures ∙ ap (λ m. adjusted 64 (take m (spread 8 (take (length (c .before .before .before .before .before .before .before .args .c .now) - 8 * c .before .before .before .before .loop .j) (drop (8 * c .before .before .before .before .loop .j) (c .before .before .before .before .before .before .before .args .c .now)))))) e),
     )
 
 same-length : tie.Need-same-length Inv-loop μ-loop
@@ -82,9 +80,8 @@ same-length c = search needs
 
 returns : tie.Need-returns Inv-loop μ-loop
 returns c =
-    let s = c .before .before .before .before .args in
-    let e : c .before .loop .j ≡ wordsFor (s .n) = omega arith in
-    c .before .loop .inv .3 ∙ ap (λ j. over (packed 64 j (take (s .n) (spread 8 (s .c .now)))) (s .table .now)) e
+    let e : c .before .loop .j ≡ wordsFor (c .before .before .before .before .args .n) = omega arith in
+    c .before .loop .inv .3 ∙ ap (λ j. over (packed 64 j (take (c .before .before .before .before .args .n) (spread 8 (c .before .before .before .before .args .c .now)))) (c .before .before .before .before .args .table .now)) e
 
 pub put-bits-spec : {M : Type 1} → statement M
 put-bits-spec =

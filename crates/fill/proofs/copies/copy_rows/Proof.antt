@@ -18,9 +18,7 @@ mul-total : tie.Need-mul-total Inv-loop μ-loop
 mul-total c = search needs
 
 loop-holds : tie.Need-loop-holds Inv-loop μ-loop
-loop-holds c =
-    let s = c .before in
-    (refl, copying-start (s .args .words) (s .args .rows) (s .args .k) (s .args .table .now) (s .pre .0) (s .pre .1))
+loop-holds c = (refl, copying-start (c .before .args .words) (c .before .args .rows) (c .before .args .k) (c .before .args .table .now) (c .before .pre .0) (c .before .pre .1))
 
 sub-from : tie.Need-sub-from Inv-loop μ-loop
 sub-from c = search needs
@@ -89,19 +87,13 @@ loop-less : tie.Need-loop-less Inv-loop μ-loop
 loop-less c = search needs
 
 loop-again : tie.Need-loop-again Inv-loop μ-loop
-loop-again c =
-    let s = c .before .before .before .before .before .before .before in
-    let l = c .before .before .before .before .before .loop in
-    (l .inv .0, copying-step (s .args .words) (s .args .rows) (s .args .k) (s .args .table .now) (l .table) (l .j) _ _ _ (s .pre .1) (omega arith) (l .inv .1) refl refl (c .shifted .ensures))
+loop-again c = (c .before .before .before .before .before .loop .inv .0, copying-step (c .before .before .before .before .before .before .before .args .words) (c .before .before .before .before .before .before .before .args .rows) (c .before .before .before .before .before .before .before .args .k) (c .before .before .before .before .before .before .before .args .table .now) (c .before .before .before .before .before .loop .table) (c .before .before .before .before .before .loop .j) _ _ _ (c .before .before .before .before .before .before .before .pre .1) (omega arith) (c .before .before .before .before .before .loop .inv .1) refl refl (c .shifted .ensures))
 
 same-length : tie.Need-same-length Inv-loop μ-loop
 same-length c = search needs
 
 returns : tie.Need-returns Inv-loop μ-loop
-returns c =
-    let s = c .before .before .before in
-    let l = c .before .loop in
-    copying-end (s .args .words) (s .args .rows) (s .args .k) (s .args .table .now) (l .table) (l .j) (s .pre .0) (s .pre .1) (omega arith) (l .inv .1)
+returns c = copying-end (c .before .before .before .args .words) (c .before .before .before .args .rows) (c .before .before .before .args .k) (c .before .before .before .args .table .now) (c .before .loop .table) (c .before .loop .j) (c .before .before .before .pre .0) (c .before .before .before .pre .1) (omega arith) (c .before .loop .inv .1)
 
 pub copy-rows-spec : {M : Type 1} → statement M
 copy-rows-spec =

@@ -41,19 +41,13 @@ loop-less : tie.Need-loop-less Inv-loop μ-loop
 loop-less c = search needs
 
 loop-again : tie.Need-loop-again Inv-loop μ-loop
-loop-again c =
-    let s = c .before .before .before in
-    let l = c .before .before .loop in
-    (l .inv .0, repeating-step (s .args .n) (s .args .k) (s .args .table .now) (l .table) (l .j) _ (s .pre .1) (omega arith) (l .inv .1) refl)
+loop-again c = (c .before .before .loop .inv .0, repeating-step (c .before .before .before .args .n) (c .before .before .before .args .k) (c .before .before .before .args .table .now) (c .before .before .loop .table) (c .before .before .loop .j) _ (c .before .before .before .pre .1) (omega arith) (c .before .before .loop .inv .1) refl)
 
 same-length : tie.Need-same-length Inv-loop μ-loop
 same-length c = search needs
 
 returns : tie.Need-returns Inv-loop μ-loop
-returns c =
-    let s = c .before .before in
-    let l = c .before .loop in
-    repeating-end (s .args .n) (s .args .k) (s .args .table .now) (l .table) (l .j) (s .pre .0) (s .pre .1) (omega arith) (l .inv .1)
+returns c = repeating-end (c .before .before .args .n) (c .before .before .args .k) (c .before .before .args .table .now) (c .before .loop .table) (c .before .loop .j) (c .before .before .pre .0) (c .before .before .pre .1) (omega arith) (c .before .loop .inv .1)
 
 pub copy-words-spec : {M : Type 1} → statement M
 copy-words-spec =

@@ -43,7 +43,7 @@ shared-slice-read-table : tie.Need-shared-slice-read-table Inv-loop μ-loop
 shared-slice-read-table c = search needs
 
 cast-table : tie.Need-cast-table Inv-loop μ-loop
-cast-table c = omega (arith, c .shared-slice-known .given (c .before .before .loop .i))
+cast-table c = search needs
 
 add-table-2 : tie.Need-add-table-2 Inv-loop μ-loop
 add-table-2 c = search needs
@@ -61,10 +61,7 @@ loop-less : tie.Need-loop-less Inv-loop μ-loop
 loop-less c = search needs
 
 loop-again : tie.Need-loop-again Inv-loop μ-loop
-loop-again c =
-    let s = c .before .before .before in
-    let l = c .before .before .loop in
-    (omega arith, simp length-set (l .inv .1), char-turn (s .args .c .now) (s .args .table .now) (l .table) (l .i) (omega arith) (s .pre) (l .inv .1) (l .inv .2))
+loop-again c = (omega arith, simp length-set (c .before .before .loop .inv .1), char-turn (c .before .before .before .args .c .now) (c .before .before .before .args .table .now) (c .before .before .loop .table) (c .before .before .loop .i) (omega arith) (c .before .before .before .pre) (c .before .before .loop .inv .1) (c .before .before .loop .inv .2))
 
 same-length : tie.Need-same-length Inv-loop μ-loop
 same-length c = search needs

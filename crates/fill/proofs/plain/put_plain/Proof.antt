@@ -15,7 +15,7 @@ enum-known-h : tie.Need-enum-known-h
 enum-known-h c = search needs
 
 put-row-requires : tie.Need-put-row-requires
-unfolding plainRows
+unfolding plainRows plainPlaced Apt wordsFor bytesFor
 put-row-requires c κs = rw (c .before .before .h .given .1) at (c .before .before .before .before .before .before .pre .2)
 
 one-item-requires : tie.Need-one-item-requires
@@ -25,11 +25,11 @@ enum-known-h-2 : tie.Need-enum-known-h-2
 enum-known-h-2 c = search needs
 
 put-row-requires-2 : tie.Need-put-row-requires-2
-unfolding plainRows
+unfolding plainRows plainPlaced Apt wordsFor bytesFor
 put-row-requires-2 c κs = rw (c .before .before .h2 .given .1) at (c .before .before .before .before .before .before .pre .2)
 
 add-one-item : tie.Need-add-one-item
-unfolding Apt
+unfolding plainRows plainPlaced Apt wordsFor bytesFor
 add-one-item c = let a = rw (c .before .before .before .before .before .h2 .given .1) at (c .before .before .before .before .before .before .before .before .before .pre .1) in omega arith
 
 one-item-requires-2 : tie.Need-one-item-requires-2
@@ -39,11 +39,11 @@ enum-known-h-3 : tie.Need-enum-known-h-3
 enum-known-h-3 c = search needs
 
 put-row-requires-3 : tie.Need-put-row-requires-3
-unfolding plainRows
+unfolding plainRows plainPlaced Apt wordsFor bytesFor
 put-row-requires-3 c κs = rw (c .before .before .h3 .given .1) at (c .before .before .before .before .before .before .pre .2)
 
 add-one-item-2 : tie.Need-add-one-item-2
-unfolding Apt bytesFor
+unfolding plainRows plainPlaced Apt wordsFor bytesFor
 add-one-item-2 c = let a = rw (c .before .before .before .before .before .h3 .given .1) at (c .before .before .before .before .before .before .before .before .before .pre .1) in omega arith
 
 one-item-requires-3 : tie.Need-one-item-requires-3
@@ -53,7 +53,7 @@ enum-known-h-4 : tie.Need-enum-known-h-4
 enum-known-h-4 c = search needs
 
 add-e : tie.Need-add-e
-unfolding Apt
+unfolding plainRows plainPlaced Apt wordsFor bytesFor
 add-e c = let a = rw (c .before .h4 .given .1) at (c .before .before .before .before .before .pre .1) in omega arith
 
 sub-put-characters : tie.Need-sub-put-characters
@@ -63,38 +63,36 @@ part-put-characters-start : tie.Need-part-put-characters-start
 part-put-characters-start c = search needs
 
 part-put-characters-end : tie.Need-part-put-characters-end
-unfolding Apt
+unfolding plainRows plainPlaced Apt wordsFor bytesFor
 part-put-characters-end c = let a = rw (c .before .h4 .given .1) at (c .before .before .before .before .before .pre .1) in omega arith
 
 sub-put-characters-2 : tie.Need-sub-put-characters-2
-unfolding plainRows
+unfolding plainRows plainPlaced Apt wordsFor bytesFor
 sub-put-characters-2 c = let a = rw (c .before .before .h4 .given .1) at (c .before .before .before .before .before .before .pre .2) in omega arith
 
 part-put-characters-start-2 : tie.Need-part-put-characters-start-2
-unfolding plainRows
+unfolding plainRows plainPlaced Apt wordsFor bytesFor
 part-put-characters-start-2 c = let a = rw (c .before .before .h4 .given .1) at (c .before .before .before .before .before .before .pre .2) in omega arith
 
 part-put-characters-end-2 : tie.Need-part-put-characters-end-2
 part-put-characters-end-2 c = search needs
 
 put-characters-requires : tie.Need-put-characters-requires
-unfolding plainRows Apt
+unfolding plainRows plainPlaced Apt wordsFor bytesFor
 put-characters-requires c κs =
-    let s = c .before .before .before .before .before .before .before in
-    let h = c .before .before .before .h4 .given in
-    let a = rw (h .1) at (s .pre .1) in
-    let r = rw (h .1) at (s .pre .2) in
-    let g = text-room (s .args .s .now) _ _ _ a r in
+    let a = rw (c .before .before .before .h4 .given .1) at (c .before .before .before .before .before .before .before .pre .1) in
+    let r = rw (c .before .before .before .h4 .given .1) at (c .before .before .before .before .before .before .before .pre .2) in
+    let g = text-room (c .before .before .before .before .before .before .before .args .s .now) _ _ _ a r in
     simp (length-take, length-drop) (omega arith)
 
 put-row-requires-4 : tie.Need-put-row-requires-4
-unfolding plainRows
+unfolding plainRows plainPlaced Apt wordsFor bytesFor
 put-row-requires-4 c κs =
     let r = rw (c .before .before .before .before .before .before .before .h4 .given .1) at (c .before .before .before .before .before .before .before .before .before .before .before .pre .2) in
     still-three (c .before .before .before .before .before .before .before .before .before .before .before .args .table .now) _ (omega arith)
 
 add-one-item-3 : tie.Need-add-one-item-3
-unfolding Apt
+unfolding plainRows plainPlaced Apt wordsFor bytesFor
 add-one-item-3 c = let a = rw (c .before .before .before .before .before .before .before .before .before .before .h4 .given .1) at (c .before .before .before .before .before .before .before .before .before .before .before .before .before .before .pre .1) in omega arith
 
 one-item-requires-4 : tie.Need-one-item-requires-4
@@ -104,41 +102,37 @@ same-length : tie.Need-same-length
 same-length c = search needs
 
 returns : tie.Need-returns
-unfolding plainRows plainPlaced
+unfolding plainRows plainPlaced Apt wordsFor bytesFor
 returns c = rw (c .before .before .before .before .before .before .h .given .1) (c .one-item .ensures, c .before .before .before .put-row .ensures)
 
 same-length-2 : tie.Need-same-length-2
 same-length-2 c = search needs
 
 returns-2 : tie.Need-returns-2
-unfolding plainRows plainPlaced wordsFor
+unfolding plainRows plainPlaced Apt wordsFor bytesFor
 returns-2 c = rw (c .before .before .before .before .before .before .h2 .given .1) (c .one-item2 .ensures, c .before .before .before .put-row2 .ensures)
 
 same-length-3 : tie.Need-same-length-3
 same-length-3 c = search needs
 
 returns-3 : tie.Need-returns-3
-unfolding plainRows plainPlaced wordsFor
+unfolding plainRows plainPlaced Apt wordsFor bytesFor
 returns-3 c = rw (c .before .before .before .before .before .before .h3 .given .1) (c .one-item3 .ensures, c .before .before .before .put-row3 .ensures)
 
 same-length-4 : tie.Need-same-length-4
 same-length-4 c = search needs
 
 returns-4 : tie.Need-returns-4
-unfolding plainRows plainPlaced
+unfolding plainRows plainPlaced Apt wordsFor bytesFor
 returns-4 c =
-    let s = c .before .before .before .before .before .before .before .before .before .before .before .before .before .before .before in
-    let h = c .before .before .before .before .before .before .before .before .before .before .before .h4 .given in
-    let r = rw (h .1) at (s .pre .2) in
-    let t = c .before .before .before .put-row4 .ensures ∙ text-rows (s .args .s .now) _ _ (s .args .table .now) _ (omega arith) (c .before .before .before .before .before .before .before .put-characters .ensures) in
-    rw (h .1) (c .one-item4 .ensures, t)
+    let r = rw (c .before .before .before .before .before .before .before .before .before .before .before .h4 .given .1) at (c .before .before .before .before .before .before .before .before .before .before .before .before .before .before .before .pre .2) in
+    rw (c .before .before .before .before .before .before .before .before .before .before .before .h4 .given .1) (
+      c .one-item4 .ensures,
+      c .before .before .before .put-row4 .ensures ∙ text-rows (c .before .before .before .before .before .before .before .before .before .before .before .before .before .before .before .args .s .now) _ _ (c .before .before .before .before .before .before .before .before .before .before .before .before .before .before .before .args .table .now) _ (omega arith) (c .before .before .before .before .before .before .before .put-characters .ensures),
+    )
 
 returns-5 : tie.Need-returns-5
-returns-5 c =
-    let a = c .before .before .before .args in
-    let t = a .table .now in
-    let i = idle (a .s .now) (a .h) (c .match .keys5) in
-    (sym (i .0), sym (ap (λ l. over l t) (i .1 (a .base)) ∙ over-none t))
+returns-5 c = let i = idle (c .before .before .before .args .s .now) (c .before .before .before .args .h) (c .match .keys5) in (sym (i .0), sym (ap (λ l. over l (c .before .before .before .args .table .now)) (i .1 (c .before .before .before .args .base)) ∙ over-none (c .before .before .before .args .table .now)))
 
 pub put-plain-spec : {M : Type 1} → statement M
 put-plain-spec =

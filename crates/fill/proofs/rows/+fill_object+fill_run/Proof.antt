@@ -6,8 +6,8 @@ use Rattle.fill.proofs.PlainLaws.{head-apt}
 use borrow.Author.Needs.{needs}
 use native.Mathlib.Omega.{arith}
 use mathlib.Core.Path.{refl}
-use lib.ListN.{length, length-set, length-take, length-drop}
-use Rattle.fill.proofs.RowWalk.{RowsInv, rows-start, rows-end, here-fits, rows-more, gap-turn, plain-turn, plain-fits, plain-filled, none-filled, inside-fits, inside-closable, open-filled}
+use lib.ListN.{length, length-take, length-drop}
+use Rattle.fill.proofs.RowWalk.{RowsInv, rows-start, rows-end, here-fits, rows-more, stretch-turn, plain-fits, plain-filled, none-filled, inside-fits, inside-closable, open-filled}
 use borrow.Fn.Kinds.{In}
 use borrow.Fn.PlainCycle.{Measures, is, falls, and}
 use Rattle.fill.proofs.rows.fill_object.Reads as fill-object
@@ -17,10 +17,10 @@ use Rattle.fill.proofs.rows.fill_run.Reads as fill-run
 use Rattle.fill.proofs.rows.fill_run.Kinds as fill-run-kinds
 use Rattle.fill.proofs.rows.+fill_object+fill_run.Lts-fill_run as fill-run-lts
 use Rattle.fill.proofs.copies.copies_of.Reads as copies-of-reads
-use Rattle.fill.proofs.plain.plain_kind.Reads as plain-kind-reads
 use Rattle.fill.proofs.plain.put_plain.Reads as put-plain-reads
 use Rattle.fill.proofs.rows.close.Reads as close-reads
 use Rattle.fill.proofs.rows.own_words.Reads as own-words-reads
+use Rattle.fill.proofs.stretch.put_stretch.Reads as put-stretch-reads
 use Rattle.wire.proofs.head.head_of.Reads as head-of-reads
 use Rattle.fill.proofs.rows.+fill_object+fill_run.{statement}
 use Rattle.fill.proofs.rows.+fill_object+fill_run.Tie.{close}
@@ -48,8 +48,8 @@ fill-run-below t =
 
 abbrev fill-run-claims : ℕ → fill-run-lts.Claims
 fill-run-claims t = (
-  plain-kind-reads.Asked,
-  plain-kind-reads.Learnt,
+  put-stretch-reads.Asked,
+  put-stretch-reads.Learnt,
   fill-object-below t,
   fill-object.Post,
 )
@@ -86,10 +86,9 @@ fill-object-copies-of-requires t c κs = search needs
 fill-object-returns : (t : ℕ) → fill-object-lts.Need-returns (fill-object-claims t) (fill-object-at t) fill-object.Post
 fill-object-returns t c =
     let s = c .before .before .before .before .before .before .before .before in
+    let a = s .args in
     let h = c .before .before .before .h .given in
-    let q = c .before .before .before .before .before .head-of in
-    let k = c .before .copies-of in
-    none-filled _ _ _ _ (s .args .table .now) (s .pre .1 .1) (h .0 .0) (h .0 .1 .0) (h .0 .1 .1 .0) (rw (h .1) at (q .ensures)) _ (k .ensures) (c .if1 .taken)
+    none-filled _ _ _ _ (a .table .now) (s .pre .1 .1) (h .0 .0) (h .0 .1 .0) (h .0 .1 .1 .0) (rw (h .1) at (c .before .before .before .before .before .head-of .ensures)) _ (c .before .copies-of .ensures) (c .if1 .taken)
 
 fill-object-own-words-requires : (t : ℕ) → fill-object-lts.Need-own-words-requires (fill-object-claims t) (fill-object-at t) fill-object.Post
 fill-object-own-words-requires t c κs = search needs
@@ -109,29 +108,23 @@ fill-object-part-fill-run-end t c = let q = rw (c .before .before .before .befor
 fill-object-mul-fill-run : (t : ℕ) → fill-object-lts.Need-mul-fill-run (fill-object-claims t) (fill-object-at t) fill-object.Post
 fill-object-mul-fill-run t c =
     let s = c .before .before .before .before .before .before .before .before .before .before in
+    let a = s .args in
     let h = c .before .before .before .before .before .h .given in
-    let q = c .before .before .before .before .before .before .before .head-of in
-    let k = c .before .before .before .copies-of in
-    let o = c .before .own-words in
-    omega (arith, inside-fits _ _ _ _ (s .args .table .now) (s .pre .1 .1) (h .0 .0) (h .0 .1 .0) (h .0 .1 .1 .0) (rw (h .1) at (q .ensures)) _ (k .ensures) _ (o .ensures) (omega arith) .0)
+    omega (arith, inside-fits _ _ _ _ (a .table .now) (s .pre .1 .1) (h .0 .0) (h .0 .1 .0) (h .0 .1 .1 .0) (rw (h .1) at (c .before .before .before .before .before .before .before .head-of .ensures)) _ (c .before .before .before .copies-of .ensures) _ (c .before .own-words .ensures) (omega arith) .0)
 
 fill-object-sub-fill-run-2 : (t : ℕ) → fill-object-lts.Need-sub-fill-run-2 (fill-object-claims t) (fill-object-at t) fill-object.Post
 fill-object-sub-fill-run-2 t c =
     let s = c .before .before .before .before .before .before .before .before .before .before in
+    let a = s .args in
     let h = c .before .before .before .before .before .h .given in
-    let q = c .before .before .before .before .before .before .before .head-of in
-    let k = c .before .before .before .copies-of in
-    let o = c .before .own-words in
-    inside-fits _ _ _ _ (s .args .table .now) (s .pre .1 .1) (h .0 .0) (h .0 .1 .0) (h .0 .1 .1 .0) (rw (h .1) at (q .ensures)) _ (k .ensures) _ (o .ensures) (omega arith) .0
+    inside-fits _ _ _ _ (a .table .now) (s .pre .1 .1) (h .0 .0) (h .0 .1 .0) (h .0 .1 .1 .0) (rw (h .1) at (c .before .before .before .before .before .before .before .head-of .ensures)) _ (c .before .before .before .copies-of .ensures) _ (c .before .own-words .ensures) (omega arith) .0
 
 fill-object-part-fill-run-start-2 : (t : ℕ) → fill-object-lts.Need-part-fill-run-start-2 (fill-object-claims t) (fill-object-at t) fill-object.Post
 fill-object-part-fill-run-start-2 t c =
     let s = c .before .before .before .before .before .before .before .before .before .before in
+    let a = s .args in
     let h = c .before .before .before .before .before .h .given in
-    let q = c .before .before .before .before .before .before .before .head-of in
-    let k = c .before .before .before .copies-of in
-    let o = c .before .own-words in
-    inside-fits _ _ _ _ (s .args .table .now) (s .pre .1 .1) (h .0 .0) (h .0 .1 .0) (h .0 .1 .1 .0) (rw (h .1) at (q .ensures)) _ (k .ensures) _ (o .ensures) (omega arith) .0
+    inside-fits _ _ _ _ (a .table .now) (s .pre .1 .1) (h .0 .0) (h .0 .1 .0) (h .0 .1 .1 .0) (rw (h .1) at (c .before .before .before .before .before .before .before .head-of .ensures)) _ (c .before .before .before .copies-of .ensures) _ (c .before .own-words .ensures) (omega arith) .0
 
 fill-object-part-fill-run-end-2 : (t : ℕ) → fill-object-lts.Need-part-fill-run-end-2 (fill-object-claims t) (fill-object-at t) fill-object.Post
 fill-object-part-fill-run-end-2 t c = search needs
@@ -139,29 +132,24 @@ fill-object-part-fill-run-end-2 t c = search needs
 fill-object-fill-run-requires : (t : ℕ) → fill-object-lts.Need-fill-run-requires (fill-object-claims t) (fill-object-at t) fill-object.Post
 fill-object-fill-run-requires t c κs =
     let s = c .before .before .before .before .before .before .before .before .before .before .before in
+    let a = s .args in
     let h = c .before .before .before .before .before .before .h .given in
-    let q = c .before .before .before .before .before .before .before .before .head-of in
-    let k = c .before .before .before .before .copies-of in
-    let o = c .before .before .own-words in
-    let e = rw (h .1) at (q .ensures) in
-    let i = e .1 in
-    let f = inside-fits _ _ _ _ (s .args .table .now) (s .pre .1 .1) (h .0 .0) (h .0 .1 .0) (h .0 .1 .1 .0) (rw (h .1) at (q .ensures)) _ (k .ensures) _ (o .ensures) (omega arith) in
-    (simp (length-take, length-drop) (omega arith), (simp (length-take, length-drop) (omega arith), rw (part-length (o .result) (s .args .table .now)) (f .1)))
+    let q = rw (h .1) at (c .before .before .before .before .before .before .before .before .head-of .ensures) in
+    let i = q .1 in
+    let f = inside-fits _ _ _ _ (a .table .now) (s .pre .1 .1) (h .0 .0) (h .0 .1 .0) (h .0 .1 .1 .0) (rw (h .1) at (c .before .before .before .before .before .before .before .before .head-of .ensures)) _ (c .before .before .before .before .copies-of .ensures) _ (c .before .before .own-words .ensures) (omega arith) in
+    (simp (length-take, length-drop) (omega arith), (simp (length-take, length-drop) (omega arith), rw (part-length (c .before .before .own-words .result) (a .table .now)) (f .1)))
 
 fill-object-close-requires : (t : ℕ) → fill-object-lts.Need-close-requires (fill-object-claims t) (fill-object-at t) fill-object.Post
 fill-object-close-requires t c κs =
     let s = c .before .before .before .before .before .before .before .before .before .before .before .before .before .before .before in
+    let a = s .args in
     let h = c .before .before .before .before .before .before .before .before .before .before .h .given in
-    let q = c .before .before .before .before .before .before .before .before .before .before .before .before .head-of in
-    let k = c .before .before .before .before .before .before .before .before .copies-of in
-    let o = c .before .before .before .before .before .before .own-words in
-    inside-closable _ _ _ _ (s .args .table .now) (s .pre .1 .1) (h .0 .0) (h .0 .1 .0) (h .0 .1 .1 .0) (rw (h .1) at (q .ensures)) _ (k .ensures) _ (o .ensures) (omega arith) _ _ (c .before .before .before .fill-run .ensures)
+    inside-closable _ _ _ _ (a .table .now) (s .pre .1 .1) (h .0 .0) (h .0 .1 .0) (h .0 .1 .1 .0) (rw (h .1) at (c .before .before .before .before .before .before .before .before .before .before .before .before .head-of .ensures)) _ (c .before .before .before .before .before .before .before .before .copies-of .ensures) _ (c .before .before .before .before .before .before .own-words .ensures) (omega arith) _ _ (c .before .before .before .fill-run .ensures)
 
 fill-object-put-plain-requires : (t : ℕ) → fill-object-lts.Need-put-plain-requires (fill-object-claims t) (fill-object-at t) fill-object.Post
 fill-object-put-plain-requires t c κs =
     let s = c .before .before .before .before .before in
-    let q = c .before .before .head-of in
-    (omega arith, head-apt (s .args .s .now) (q .result) _ (q .ensures), plain-fits _ _ _ _ (s .args .table .now) (s .pre .1 .1) _ (c .before .match .keys2) (q .ensures))
+    (omega arith, head-apt (s .args .s .now) (c .before .before .head-of .result) _ (c .before .before .head-of .ensures), plain-fits _ _ _ _ (s .args .table .now) (s .pre .1 .1) _ (c .before .match .keys2) (c .before .before .head-of .ensures))
 
 fill-object-same-length : (t : ℕ) → fill-object-lts.Need-same-length (fill-object-claims t) (fill-object-at t) fill-object.Post
 fill-object-same-length t c = search needs
@@ -169,13 +157,9 @@ fill-object-same-length t c = search needs
 fill-object-returns-2 : (t : ℕ) → fill-object-lts.Need-returns-2 (fill-object-claims t) (fill-object-at t) fill-object.Post
 fill-object-returns-2 t c =
     let s = c .before .before .before .before .before .before .before .before .before .before .before .before .before .before .before .before .before .before in
+    let a = s .args in
     let h = c .before .before .before .before .before .before .before .before .before .before .before .before .before .h .given in
-    let q = c .before .before .before .before .before .before .before .before .before .before .before .before .before .before .before .head-of in
-    let k = c .before .before .before .before .before .before .before .before .before .before .before .copies-of in
-    let o = c .before .before .before .before .before .before .before .before .before .own-words in
-    let z = c .before .before .close in
-    open-filled _ _ _ _ (s .args .table .now) (s .pre .1 .1) (h .0 .0) (h .0 .1 .0) (h .0 .1 .1 .0) (rw (h .1) at (q .ensures)) _ (k .ensures) _ (o .ensures) (omega (arith, c .before .before .before .before .before .before .before .before .before .before .if1 .left)) _ _ (c .before .before .before .before .before .before .fill-run .ensures)
-    _ _ (z .ensures .0) (z .ensures .1)
+    open-filled _ _ _ _ (a .table .now) (s .pre .1 .1) (h .0 .0) (h .0 .1 .0) (h .0 .1 .1 .0) (rw (h .1) at (c .before .before .before .before .before .before .before .before .before .before .before .before .before .before .before .head-of .ensures)) _ (c .before .before .before .before .before .before .before .before .before .before .before .copies-of .ensures) _ (c .before .before .before .before .before .before .before .before .before .own-words .ensures) (omega arith) _ _ (c .before .before .before .before .before .before .fill-run .ensures) _ _ (c .before .before .close .ensures .0) (c .before .before .close .ensures .1)
 
 fill-object-same-length-2 : (t : ℕ) → fill-object-lts.Need-same-length-2 (fill-object-claims t) (fill-object-at t) fill-object.Post
 fill-object-same-length-2 t c = search needs
@@ -183,9 +167,7 @@ fill-object-same-length-2 t c = search needs
 fill-object-returns-3 : (t : ℕ) → fill-object-lts.Need-returns-3 (fill-object-claims t) (fill-object-at t) fill-object.Post
 fill-object-returns-3 t c =
     let s = c .before .before .before .before .before .before .before .before in
-    let q = c .before .before .before .before .before .head-of in
-    let z = c .before .before .put-plain in
-    plain-filled _ _ _ _ (s .args .table .now) (s .pre .1 .1) _ (c .before .before .before .before .match .keys2) (q .ensures) _ _ (z .ensures .0) (z .ensures .1)
+    plain-filled _ _ _ _ (s .args .table .now) (s .pre .1 .1) _ (c .before .before .before .before .match .keys2) (c .before .before .before .before .before .head-of .ensures) _ _ (c .before .before .put-plain .ensures .0) (c .before .before .put-plain .ensures .1)
 
 abbrev fill-run-Inv-loop : fill-run-lts.InvT-loop
 fill-run-Inv-loop depth s base table₀ i₀ rows₀ count₀ words₀ table i rows count words = RowsInv depth s base table₀ table i rows count words
@@ -196,50 +178,11 @@ fill-run-μ-loop depth s base table₀ i₀ rows₀ count₀ words₀ table i ro
 fill-run-loop-holds : (t : ℕ) → fill-run-lts.Need-loop-holds (fill-run-claims t) (fill-run-at t) fill-run.Post fill-run-Inv-loop fill-run-μ-loop
 fill-run-loop-holds t c = rows-start _ _ _ (c .before .before .args .table .now) (c .before .before .pre .1 .1)
 
-fill-run-shared-slice-read-b : (t : ℕ) → fill-run-lts.Need-shared-slice-read-b (fill-run-claims t) (fill-run-at t) fill-run.Post fill-run-Inv-loop fill-run-μ-loop
-fill-run-shared-slice-read-b t c = search needs
+fill-run-mul-put-stretch : (t : ℕ) → fill-run-lts.Need-mul-put-stretch (fill-run-claims t) (fill-run-at t) fill-run.Post fill-run-Inv-loop fill-run-μ-loop
+fill-run-mul-put-stretch t c = search needs
 
-fill-run-add-i : (t : ℕ) → fill-run-lts.Need-add-i (fill-run-claims t) (fill-run-at t) fill-run.Post fill-run-Inv-loop fill-run-μ-loop
-fill-run-add-i t c = search needs
-
-fill-run-mul-used : (t : ℕ) → fill-run-lts.Need-mul-used (fill-run-claims t) (fill-run-at t) fill-run.Post fill-run-Inv-loop fill-run-μ-loop
-fill-run-mul-used t c = search needs
-
-fill-run-plain-kind-requires : (t : ℕ) → fill-run-lts.Need-plain-kind-requires (fill-run-claims t) (fill-run-at t) fill-run.Post fill-run-Inv-loop fill-run-μ-loop
-fill-run-plain-kind-requires t c κs = search needs
-
-fill-run-mul-table : (t : ℕ) → fill-run-lts.Need-mul-table (fill-run-claims t) (fill-run-at t) fill-run.Post fill-run-Inv-loop fill-run-μ-loop
-fill-run-mul-table t c = search needs
-
-fill-run-slice-write-table : (t : ℕ) → fill-run-lts.Need-slice-write-table (fill-run-claims t) (fill-run-at t) fill-run.Post fill-run-Inv-loop fill-run-μ-loop
-fill-run-slice-write-table t c =
-    let l = c .before .before .before .before .loop in
-    omega (arith, plain-turn _ _ _ _ _ _ _ _ _ (l .inv) _ (omega arith) refl (c .before .if1 .taken) .0)
-
-fill-run-add-table : (t : ℕ) → fill-run-lts.Need-add-table (fill-run-claims t) (fill-run-at t) fill-run.Post fill-run-Inv-loop fill-run-μ-loop
-fill-run-add-table t c = search needs
-
-fill-run-mul-table-2 : (t : ℕ) → fill-run-lts.Need-mul-table-2 (fill-run-claims t) (fill-run-at t) fill-run.Post fill-run-Inv-loop fill-run-μ-loop
-fill-run-mul-table-2 t c = search needs
-
-fill-run-slice-write-table-2 : (t : ℕ) → fill-run-lts.Need-slice-write-table-2 (fill-run-claims t) (fill-run-at t) fill-run.Post fill-run-Inv-loop fill-run-μ-loop
-fill-run-slice-write-table-2 t c =
-    let l = c .before .before .before .before .loop in
-    simp length-set (omega (arith, plain-turn _ _ _ _ _ _ _ _ _ (l .inv) _ (omega arith) refl (c .before .if1 .taken) .0))
-
-fill-run-cast-table : (t : ℕ) → fill-run-lts.Need-cast-table (fill-run-claims t) (fill-run-at t) fill-run.Post fill-run-Inv-loop fill-run-μ-loop
-fill-run-cast-table t c = search needs
-
-fill-run-add-table-2 : (t : ℕ) → fill-run-lts.Need-add-table-2 (fill-run-claims t) (fill-run-at t) fill-run.Post fill-run-Inv-loop fill-run-μ-loop
-fill-run-add-table-2 t c = search needs
-
-fill-run-mul-table-3 : (t : ℕ) → fill-run-lts.Need-mul-table-3 (fill-run-claims t) (fill-run-at t) fill-run.Post fill-run-Inv-loop fill-run-μ-loop
-fill-run-mul-table-3 t c = search needs
-
-fill-run-slice-write-table-3 : (t : ℕ) → fill-run-lts.Need-slice-write-table-3 (fill-run-claims t) (fill-run-at t) fill-run.Post fill-run-Inv-loop fill-run-μ-loop
-fill-run-slice-write-table-3 t c =
-    let l = c .before .before .before .before .loop in
-    simp length-set (omega (arith, plain-turn _ _ _ _ _ _ _ _ _ (l .inv) _ (omega arith) refl (c .before .if1 .taken) .0))
+fill-run-put-stretch-requires : (t : ℕ) → fill-run-lts.Need-put-stretch-requires (fill-run-claims t) (fill-run-at t) fill-run.Post fill-run-Inv-loop fill-run-μ-loop
+fill-run-put-stretch-requires t c κs = let v = c .before .before .loop .inv in (omega arith, omega arith)
 
 fill-run-add-rows : (t : ℕ) → fill-run-lts.Need-add-rows (fill-run-claims t) (fill-run-at t) fill-run.Post fill-run-Inv-loop fill-run-μ-loop
 fill-run-add-rows t c = search needs
@@ -251,17 +194,16 @@ fill-run-loop-less : (t : ℕ) → fill-run-lts.Need-loop-less (fill-run-claims 
 fill-run-loop-less t c = search needs
 
 fill-run-loop-again : (t : ℕ) → fill-run-lts.Need-loop-again (fill-run-claims t) (fill-run-at t) fill-run.Post fill-run-Inv-loop fill-run-μ-loop
-fill-run-loop-again t c =
-    let l = c .before .before .before .before .loop in
-    rw (c .plain-kind .ensures) (plain-turn _ _ _ _ _ _ _ _ _ (l .inv) _ (omega arith) refl (c .before .if1 .taken) .1)
+fill-run-loop-again t c = stretch-turn _ _ _ _ _ _ _ _ _ (c .before .before .before .before .before .before .before .before .loop .inv) _ _ _ (c .before .before .before .before .before .put-stretch .ensures)
 
-fill-run-loop-less-2 : (t : ℕ) → fill-run-lts.Need-loop-less-2 (fill-run-claims t) (fill-run-at t) fill-run.Post fill-run-Inv-loop fill-run-μ-loop
-fill-run-loop-less-2 t c = search needs
+fill-run-shared-slice-read-b : (t : ℕ) → fill-run-lts.Need-shared-slice-read-b (fill-run-claims t) (fill-run-at t) fill-run.Post fill-run-Inv-loop fill-run-μ-loop
+fill-run-shared-slice-read-b t c = search needs
 
-fill-run-loop-again-2 : (t : ℕ) → fill-run-lts.Need-loop-again-2 (fill-run-claims t) (fill-run-at t) fill-run.Post fill-run-Inv-loop fill-run-μ-loop
-fill-run-loop-again-2 t c =
-    let l = c .before .before .before .before .loop in
-    gap-turn _ _ _ _ _ _ _ _ _ (l .inv) _ (omega arith) refl (c .if2 .taken)
+fill-run-add-i : (t : ℕ) → fill-run-lts.Need-add-i (fill-run-claims t) (fill-run-at t) fill-run.Post fill-run-Inv-loop fill-run-μ-loop
+fill-run-add-i t c = search needs
+
+fill-run-mul-used : (t : ℕ) → fill-run-lts.Need-mul-used (fill-run-claims t) (fill-run-at t) fill-run.Post fill-run-Inv-loop fill-run-μ-loop
+fill-run-mul-used t c = search needs
 
 fill-run-sub-fill-object : (t : ℕ) → fill-run-lts.Need-sub-fill-object (fill-run-claims t) (fill-run-at t) fill-run.Post fill-run-Inv-loop fill-run-μ-loop
 fill-run-sub-fill-object t c = search needs
@@ -289,36 +231,38 @@ fill-run-part-fill-object-end-2 t c = search needs
 
 fill-run-fill-object-requires : (t : ℕ) → fill-run-lts.Need-fill-object-requires (fill-run-claims t) (fill-run-at t) fill-run.Post fill-run-Inv-loop fill-run-μ-loop
 fill-run-fill-object-requires t c κs =
-    let l = c .before .before .before .before .before .before .loop in
-    (simp (length-take, length-drop) (omega arith), (simp (length-take, length-drop) (omega arith), here-fits _ _ _ _ _ _ _ _ _ (l .inv) _ (omega arith) refl))
+    let v = stretch-turn _ _ _ _ _ _ _ _ _ (c .before .before .before .before .before .before .before .before .before .before .before .loop .inv) _ _ _ (c .before .before .before .before .before .before .before .before .put-stretch .ensures) in
+    (simp (length-take, length-drop) (omega arith), (simp (length-take, length-drop) (omega arith), here-fits _ _ _ _ _ _ _ _ _ v _ (omega arith) refl))
 
 fill-run-add-rows-2 : (t : ℕ) → fill-run-lts.Need-add-rows-2 (fill-run-claims t) (fill-run-at t) fill-run.Post fill-run-Inv-loop fill-run-μ-loop
 fill-run-add-rows-2 t c =
-    let l = c .before .before .before .before .before .before .before .before .before .before .loop in
-    omega (arith, rows-more _ _ _ _ _ _ _ _ _ (l .inv) _ (omega arith) refl _ _ (c .before .before .before .fill-object .ensures) .room)
+    let v = stretch-turn _ _ _ _ _ _ _ _ _ (c .before .before .before .before .before .before .before .before .before .before .before .before .before .before .before .loop .inv) _ _ _ (c .before .before .before .before .before .before .before .before .before .before .before .before .put-stretch .ensures) in
+    let f = c .before .before .before .before .before .before .before .before .before .before .before .before .before .before .before .before .before .before .good in
+    omega (arith, rows-more _ _ _ _ _ _ _ _ _ v _ (omega arith) refl _ _ (c .before .before .before .fill-object .ensures) .room)
 
 fill-run-add-count-2 : (t : ℕ) → fill-run-lts.Need-add-count-2 (fill-run-claims t) (fill-run-at t) fill-run.Post fill-run-Inv-loop fill-run-μ-loop
 fill-run-add-count-2 t c =
-    let l = c .before .before .before .before .before .before .before .before .before .before .before .loop in
-    let m = rows-more _ _ _ _ _ _ _ _ _ (l .inv) _ (omega arith) refl _ _ (c .before .before .before .before .fill-object .ensures) in omega (arith, m .room, m .fewer)
+    let v = stretch-turn _ _ _ _ _ _ _ _ _ (c .before .before .before .before .before .before .before .before .before .before .before .before .before .before .before .before .loop .inv) _ _ _ (c .before .before .before .before .before .before .before .before .before .before .before .before .before .put-stretch .ensures) in
+    let f = c .before .before .before .before .before .before .before .before .before .before .before .before .before .before .before .before .before .before .before .good in
+    let m = rows-more _ _ _ _ _ _ _ _ _ v _ (omega arith) refl _ _ (c .before .before .before .before .fill-object .ensures) in omega (arith, m .room, m .fewer)
 
 fill-run-add-words : (t : ℕ) → fill-run-lts.Need-add-words (fill-run-claims t) (fill-run-at t) fill-run.Post fill-run-Inv-loop fill-run-μ-loop
 fill-run-add-words t c =
-    let l = c .before .before .before .before .before .before .before .before .before .before .before .before .loop in
-    omega (arith, rows-more _ _ _ _ _ _ _ _ _ (l .inv) _ (omega arith) refl _ _ (c .before .before .before .before .before .fill-object .ensures) .few)
+    let v = stretch-turn _ _ _ _ _ _ _ _ _ (c .before .before .before .before .before .before .before .before .before .before .before .before .before .before .before .before .before .loop .inv) _ _ _ (c .before .before .before .before .before .before .before .before .before .before .before .before .before .before .put-stretch .ensures) in
+    omega (arith, rows-more _ _ _ _ _ _ _ _ _ v _ (omega arith) refl _ _ (c .before .before .before .before .before .fill-object .ensures) .few)
 
 fill-run-add-i-2 : (t : ℕ) → fill-run-lts.Need-add-i-2 (fill-run-claims t) (fill-run-at t) fill-run.Post fill-run-Inv-loop fill-run-μ-loop
 fill-run-add-i-2 t c =
-    let l = c .before .before .before .before .before .before .before .before .before .before .before .before .before .loop in
-    omega (arith, rows-more _ _ _ _ _ _ _ _ _ (l .inv) _ (omega arith) refl _ _ (c .before .before .before .before .before .before .fill-object .ensures) .at)
+    let v = stretch-turn _ _ _ _ _ _ _ _ _ (c .before .before .before .before .before .before .before .before .before .before .before .before .before .before .before .before .before .before .loop .inv) _ _ _ (c .before .before .before .before .before .before .before .before .before .before .before .before .before .before .before .put-stretch .ensures) in
+    omega (arith, c .before .before .before .before .before .before .before .before .before .before .before .before .before .before .before .before .before .before .before .before .before .pre .1 .0, rows-more _ _ _ _ _ _ _ _ _ v _ (omega arith) refl _ _ (c .before .before .before .before .before .before .fill-object .ensures) .at)
 
-fill-run-loop-less-3 : (t : ℕ) → fill-run-lts.Need-loop-less-3 (fill-run-claims t) (fill-run-at t) fill-run.Post fill-run-Inv-loop fill-run-μ-loop
-fill-run-loop-less-3 t c = search needs
+fill-run-loop-less-2 : (t : ℕ) → fill-run-lts.Need-loop-less-2 (fill-run-claims t) (fill-run-at t) fill-run.Post fill-run-Inv-loop fill-run-μ-loop
+fill-run-loop-less-2 t c = search needs
 
-fill-run-loop-again-3 : (t : ℕ) → fill-run-lts.Need-loop-again-3 (fill-run-claims t) (fill-run-at t) fill-run.Post fill-run-Inv-loop fill-run-μ-loop
-fill-run-loop-again-3 t c =
-    let l = c .before .before .before .before .before .before .before .before .before .before .before .before .before .loop in
-    rows-more _ _ _ _ _ _ _ _ _ (l .inv) _ (omega arith) refl _ _ (c .before .before .before .before .before .before .fill-object .ensures)
+fill-run-loop-again-2 : (t : ℕ) → fill-run-lts.Need-loop-again-2 (fill-run-claims t) (fill-run-at t) fill-run.Post fill-run-Inv-loop fill-run-μ-loop
+fill-run-loop-again-2 t c =
+    let v = stretch-turn _ _ _ _ _ _ _ _ _ (c .before .before .before .before .before .before .before .before .before .before .before .before .before .before .before .before .before .before .loop .inv) _ _ _ (c .before .before .before .before .before .before .before .before .before .before .before .before .before .before .before .put-stretch .ensures) in
+    rows-more _ _ _ _ _ _ _ _ _ v _ (omega arith) refl _ _ (c .before .before .before .before .before .before .fill-object .ensures)
 
 fill-run-same-length : (t : ℕ) → fill-run-lts.Need-same-length (fill-run-claims t) (fill-run-at t) fill-run.Post fill-run-Inv-loop fill-run-μ-loop
 fill-run-same-length t c = search needs
@@ -329,20 +273,7 @@ fill-run-returns t c =
     rows-end _ _ _ _ _ _ _ _ _ (l .inv) (omega arith)
 
 pub +fill-object+fill-run-spec : {M : Type 1} → statement M
-+fill-object+fill-run-spec = close μ-fill-object μ-fill-run (λ t. fill-object-lts.spec (
-  head-of-reads.Asked,
-  head-of-reads.Learnt,
-  copies-of-reads.Asked,
-  copies-of-reads.Learnt,
-  own-words-reads.Asked,
-  own-words-reads.Learnt,
-  fill-run-below t,
-  fill-run.Post,
-  close-reads.Asked,
-  close-reads.Learnt,
-  put-plain-reads.Asked,
-  put-plain-reads.Learnt,
-)
++fill-object+fill-run-spec = close μ-fill-object μ-fill-run (λ t. fill-object-lts.spec (fill-object-claims t)
     (fill-object-at t)
     fill-object.Post
     (fill-object-head-of-requires t)
@@ -366,32 +297,21 @@ pub +fill-object+fill-run-spec : {M : Type 1} → statement M
     (fill-object-returns-2 t)
     (fill-object-same-length-2 t)
     (fill-object-returns-3 t))
-    λ t. fill-run-lts.spec
-    (plain-kind-reads.Asked, plain-kind-reads.Learnt, fill-object-below t, fill-object.Post)
+    λ t. fill-run-lts.spec (fill-run-claims t)
     (fill-run-at t)
     fill-run.Post
     fill-run-Inv-loop
     fill-run-μ-loop
     (fill-run-loop-holds t)
-    (fill-run-shared-slice-read-b t)
-    (fill-run-add-i t)
-    (fill-run-mul-used t)
-    (fill-run-plain-kind-requires t)
-    (fill-run-mul-table t)
-    (fill-run-slice-write-table t)
-    (fill-run-add-table t)
-    (fill-run-mul-table-2 t)
-    (fill-run-slice-write-table-2 t)
-    (fill-run-cast-table t)
-    (fill-run-add-table-2 t)
-    (fill-run-mul-table-3 t)
-    (fill-run-slice-write-table-3 t)
+    (fill-run-mul-put-stretch t)
+    (fill-run-put-stretch-requires t)
     (fill-run-add-rows t)
     (fill-run-add-count t)
     (fill-run-loop-less t)
     (fill-run-loop-again t)
-    (fill-run-loop-less-2 t)
-    (fill-run-loop-again-2 t)
+    (fill-run-shared-slice-read-b t)
+    (fill-run-add-i t)
+    (fill-run-mul-used t)
     (fill-run-sub-fill-object t)
     (fill-run-part-fill-object-start t)
     (fill-run-part-fill-object-end t)
@@ -405,7 +325,7 @@ pub +fill-object+fill-run-spec : {M : Type 1} → statement M
     (fill-run-add-count-2 t)
     (fill-run-add-words t)
     (fill-run-add-i-2 t)
-    (fill-run-loop-less-3 t)
-    (fill-run-loop-again-3 t)
+    (fill-run-loop-less-2 t)
+    (fill-run-loop-again-2 t)
     (fill-run-same-length t)
     (fill-run-returns t)

@@ -4,7 +4,7 @@ use Prim.Native.Nat.{ℕ, _+_, _-_, _*_, _<_}
 use borrow.Author.Needs.{needs}
 use native.Mathlib.Omega.{arith}
 use mathlib.Core.Path.{refl}
-use lib.ListN.{length, length-take, length-drop}
+use lib.ListN.{length, getD, length-take, length-drop}
 use Rattle.fill.proofs.PlainLaws.{head-apt}
 use Rattle.fill.proofs.WordWalk.{WordsInv, words-start, words-end, here-room, words-more, gap-turn, plain-turn, plain-room, plain-stored, none-stored, inside-room, copies-room, open-stored}
 use borrow.Fn.Kinds.{In}
@@ -80,9 +80,7 @@ data-object-returns : (t : ℕ) → data-object-lts.Need-returns (data-object-cl
 data-object-returns t c =
     let s = c .before .before .before .before .before .before .before .before in
     let h = c .before .before .before .h .given in
-    let q = c .before .before .before .before .before .head-of in
-    let k = c .before .copies-of in
-    none-stored _ _ _ (s .args .table .now) (s .pre .1 .1) (h .0 .0) (h .0 .1 .0) (h .0 .1 .1 .0) (rw (h .1) at (q .ensures)) _ (k .ensures) (c .if1 .taken)
+    none-stored _ _ _ (s .args .table .now) (s .pre .1 .1) (h .0 .0) (h .0 .1 .0) (h .0 .1 .1 .0) (rw (h .1) at (c .before .before .before .before .before .head-of .ensures)) _ (c .before .copies-of .ensures) (c .if1 .taken)
 
 data-object-add-data-run : (t : ℕ) → data-object-lts.Need-add-data-run (data-object-claims t) (data-object-at t) data-object.Post
 data-object-add-data-run t c = search needs
@@ -100,33 +98,26 @@ data-object-data-run-requires : (t : ℕ) → data-object-lts.Need-data-run-requ
 data-object-data-run-requires t c κs =
     let s = c .before .before .before .before .before .before .before .before .before .before in
     let h = c .before .before .before .before .before .h .given in
-    let q = c .before .before .before .before .before .before .before .head-of in
-    let k = c .before .before .before .copies-of in
-    let e = rw (h .1) at (q .ensures) in
-    let i = e .1 in
-    (simp (length-take, length-drop) (omega arith), (simp (length-take, length-drop) (omega arith), inside-room _ _ _ (s .args .table .now) (s .pre .1 .1) (h .0 .0) (h .0 .1 .0) (h .0 .1 .1 .0) (rw (h .1) at (q .ensures)) _ (k .ensures) (omega arith)))
+    let q = rw (h .1) at (c .before .before .before .before .before .before .before .head-of .ensures) in
+    let i = q .1 in
+    (simp (length-take, length-drop) (omega arith), (simp (length-take, length-drop) (omega arith), inside-room _ _ _ (s .args .table .now) (s .pre .1 .1) (h .0 .0) (h .0 .1 .0) (h .0 .1 .1 .0) (rw (h .1) at (c .before .before .before .before .before .before .before .head-of .ensures)) _ (c .before .before .before .copies-of .ensures) (omega arith)))
 
 data-object-copy-words-requires : (t : ℕ) → data-object-lts.Need-copy-words-requires (data-object-claims t) (data-object-at t) data-object.Post
 data-object-copy-words-requires t c κs =
     let s = c .before .before .before .before .before .before .before .before .before .before .before .before .before .before in
     let h = c .before .before .before .before .before .before .before .before .before .h .given in
-    let q = c .before .before .before .before .before .before .before .before .before .before .before .head-of in
-    let k = c .before .before .before .before .before .before .before .copies-of in
-    (omega arith, copies-room _ _ _ (s .args .table .now) (s .pre .1 .1) (h .0 .0) (h .0 .1 .0) (h .0 .1 .1 .0) (rw (h .1) at (q .ensures)) _ (k .ensures) (omega arith) _ _ (c .before .before .before .data-run .ensures))
+    (omega arith, copies-room _ _ _ (s .args .table .now) (s .pre .1 .1) (h .0 .0) (h .0 .1 .0) (h .0 .1 .1 .0) (rw (h .1) at (c .before .before .before .before .before .before .before .before .before .before .before .head-of .ensures)) _ (c .before .before .before .before .before .before .before .copies-of .ensures) (omega arith) _ _ (c .before .before .before .data-run .ensures))
 
 data-object-mul-t14 : (t : ℕ) → data-object-lts.Need-mul-t14 (data-object-claims t) (data-object-at t) data-object.Post
 data-object-mul-t14 t c =
     let s = c .before .before .before .before .before .before .before .before .before .before .before .before .before .before .before .before .before in
     let h = c .before .before .before .before .before .before .before .before .before .before .before .before .h .given in
-    let q = c .before .before .before .before .before .before .before .before .before .before .before .before .before .before .head-of in
-    let k = c .before .before .before .before .before .before .before .before .before .before .copies-of in
-    omega (arith, copies-room _ _ _ (s .args .table .now) (s .pre .1 .1) (h .0 .0) (h .0 .1 .0) (h .0 .1 .1 .0) (rw (h .1) at (q .ensures)) _ (k .ensures) (omega arith) _ _ (c .before .before .before .before .before .before .data-run .ensures))
+    omega (arith, copies-room _ _ _ (s .args .table .now) (s .pre .1 .1) (h .0 .0) (h .0 .1 .0) (h .0 .1 .1 .0) (rw (h .1) at (c .before .before .before .before .before .before .before .before .before .before .before .before .before .before .head-of .ensures)) _ (c .before .before .before .before .before .before .before .before .before .before .copies-of .ensures) (omega arith) _ _ (c .before .before .before .before .before .before .data-run .ensures))
 
 data-object-put-data-requires : (t : ℕ) → data-object-lts.Need-put-data-requires (data-object-claims t) (data-object-at t) data-object.Post
 data-object-put-data-requires t c κs =
     let s = c .before .before .before .before .before in
-    let q = c .before .before .head-of in
-    (omega arith, head-apt (s .args .s .now) (q .result) _ (q .ensures), plain-room _ _ _ (s .args .table .now) (s .pre .1 .1) _ (c .before .match .keys2) (q .ensures))
+    (omega arith, head-apt (s .args .s .now) (c .before .before .head-of .result) _ (c .before .before .head-of .ensures), plain-room _ _ _ (s .args .table .now) (s .pre .1 .1) _ (c .before .match .keys2) (c .before .before .head-of .ensures))
 
 data-object-same-length : (t : ℕ) → data-object-lts.Need-same-length (data-object-claims t) (data-object-at t) data-object.Post
 data-object-same-length t c = search needs
@@ -135,9 +126,7 @@ data-object-returns-2 : (t : ℕ) → data-object-lts.Need-returns-2 (data-objec
 data-object-returns-2 t c =
     let s = c .before .before .before .before .before .before .before .before .before .before .before .before .before .before .before .before .before in
     let h = c .before .before .before .before .before .before .before .before .before .before .before .before .h .given in
-    let q = c .before .before .before .before .before .before .before .before .before .before .before .before .before .before .head-of in
-    let k = c .before .before .before .before .before .before .before .before .before .before .copies-of in
-    open-stored _ _ _ (s .args .table .now) (s .pre .1 .1) (h .0 .0) (h .0 .1 .0) (h .0 .1 .1 .0) (rw (h .1) at (q .ensures)) _ (k .ensures) (omega arith) _ _ (c .before .before .before .before .before .before .data-run .ensures) _ (c .before .before .copy-words .ensures)
+    open-stored _ _ _ (s .args .table .now) (s .pre .1 .1) (h .0 .0) (h .0 .1 .0) (h .0 .1 .1 .0) (rw (h .1) at (c .before .before .before .before .before .before .before .before .before .before .before .before .before .before .head-of .ensures)) _ (c .before .before .before .before .before .before .before .before .before .before .copies-of .ensures) (omega arith) _ _ (c .before .before .before .before .before .before .data-run .ensures) _ (c .before .before .copy-words .ensures)
 
 data-object-same-length-2 : (t : ℕ) → data-object-lts.Need-same-length-2 (data-object-claims t) (data-object-at t) data-object.Post
 data-object-same-length-2 t c = search needs
@@ -145,9 +134,7 @@ data-object-same-length-2 t c = search needs
 data-object-returns-3 : (t : ℕ) → data-object-lts.Need-returns-3 (data-object-claims t) (data-object-at t) data-object.Post
 data-object-returns-3 t c =
     let s = c .before .before .before .before .before .before .before .before in
-    let q = c .before .before .before .before .before .head-of in
-    let z = c .before .before .put-data in
-    plain-stored _ _ _ (s .args .table .now) (s .pre .1 .1) _ (c .before .before .before .before .match .keys2) (q .ensures) _ _ (z .ensures .0) (z .ensures .1)
+    plain-stored _ _ _ (s .args .table .now) (s .pre .1 .1) _ (c .before .before .before .before .match .keys2) (c .before .before .before .before .before .head-of .ensures) _ _ (c .before .before .put-data .ensures .0) (c .before .before .put-data .ensures .1)
 
 abbrev data-run-Inv-loop : data-run-lts.InvT-loop
 data-run-Inv-loop depth s table₀ i₀ words₀ table i words = WordsInv depth s table₀ table i words

@@ -1,8 +1,8 @@
--- `leap_from` meets its contract, for each class of one-byte objects. Assumes nothing.
+-- `leap_from` meets its contract, for each class of small objects. Assumes nothing.
 use native.Mathlib.Omega.{arith}
 use mathlib.Core.Path.{sym, ap, _∙_}
-use Rattle.scan.specs.Sums.{powerOf}
-use Rattle.scan.proofs.Stretches.{a-char, an-int, padding, power-none, leapt, no-leap}
+use Rattle.scan.specs.Sums.{oneOf, powerOf}
+use Rattle.scan.proofs.Stretches.{a-char, padding, power-none, leapt, counted-leapt, late-leapt, no-leap}
 use borrow.Author.Needs.{needs}
 use Rattle.scan.proofs.stretch.leap_from.Statement.{statement}
 use Rattle.scan.proofs.stretch.leap_from.Tie as tie
@@ -27,11 +27,8 @@ returns c =
     leapt 0 0x7f _ a-char (c .before .before .before .before .before .before .args .s .now) _ _ (c .before .before .until .ensures) _
     (c .power .ensures ∙ ap (powerOf _) (c .before .one-of .ensures))
 
-until-requires-2 : tie.Need-until-requires-2
-until-requires-2 c κs = search needs
-
-sub-power-2 : tie.Need-sub-power-2
-sub-power-2 c = search needs
+ints-from-requires : tie.Need-ints-from-requires
+ints-from-requires c κs = search needs
 
 one-of-requires-2 : tie.Need-one-of-requires-2
 one-of-requires-2 c κs = search needs
@@ -41,26 +38,40 @@ power-requires-2 c κs = search needs
 
 returns-2 : tie.Need-returns-2
 returns-2 c =
-    leapt 0x80 0xbf _ an-int (c .before .before .before .before .before .before .before .args .s .now) _ _ (c .before .before .until2 .ensures) _
+    counted-leapt (c .before .before .before .before .before .before .before .args .s .now) _ _ _ (c .before .before .ints-from .ensures) _
     (c .power2 .ensures ∙ ap (powerOf _) (c .before .one-of2 .ensures))
 
-until-requires-3 : tie.Need-until-requires-3
-until-requires-3 c κs = search needs
+padding-end-requires : tie.Need-padding-end-requires
+padding-end-requires c κs = search needs
 
 nothing-requires : tie.Need-nothing-requires
 nothing-requires c κs = search needs
 
 returns-3 : tie.Need-returns-3
 returns-3 c =
-    leapt 0xff 0xff _ padding (c .before .before .before .before .before .before .before .args .s .now) _ _ (c .before .until3 .ensures) _
+    leapt 0xff 0xff _ padding (c .before .before .before .before .before .before .before .args .s .now) _ _ (c .before .padding-end .ensures) _
     (c .nothing .ensures ∙ sym (power-none _))
+
+late-row-requires : tie.Need-late-row-requires
+late-row-requires c κs = search needs
+
+add-t17 : tie.Need-add-t17
+add-t17 c = search needs
+
+one-of-requires-3 : tie.Need-one-of-requires-3
+one-of-requires-3 c κs = search needs
+
+returns-4 : tie.Need-returns-4
+returns-4 c =
+    late-leapt (c .before .before .before .before .before .before .before .before .args .s .now) (c .before .before .before .before .before .before .before .before .args .i) (c .before .before .before .before .before .before .before .before .pre) (c .before .before .if4 .taken) (omega (arith, c .before .before .before .before .before .before .before .shared-slice-known .given (c .before .before .before .before .before .before .before .before .args .i))) _
+    (c .one-of3 .ensures ∙ ap (λ k. oneOf k 1 0) (c .before .late-row .ensures .0))
 
 nothing-requires-2 : tie.Need-nothing-requires-2
 nothing-requires-2 c κs = search needs
 
-returns-4 : tie.Need-returns-4
-returns-4 c =
-    no-leap (c .before .before .before .before .before .before .args .s .now) _ (omega arith) _ (c .nothing2 .ensures)
+returns-5 : tie.Need-returns-5
+returns-5 c =
+    no-leap (c .before .before .before .before .before .before .before .args .s .now) _ (omega arith) _ (c .nothing2 .ensures)
 
 pub leap-from-spec : {M : Type 1} → statement M
 leap-from-spec =
@@ -72,13 +83,16 @@ leap-from-spec =
     one-of-requires
     power-requires
     returns
-    until-requires-2
-    sub-power-2
+    ints-from-requires
     one-of-requires-2
     power-requires-2
     returns-2
-    until-requires-3
+    padding-end-requires
     nothing-requires
     returns-3
+    late-row-requires
+    add-t17
+    one-of-requires-3
+    returns-4
     nothing-requires-2
-    returns-4)
+    returns-5)

@@ -4,8 +4,8 @@ use native.Mathlib.Omega.{arith}
 use native.Mathlib.Nat.{le-refl}
 use Prim.Native.Nat.{_-_, _≤_}
 use lib.ListN.{length}
-use Rattle.scan.specs.Stretch.{Between}
-use Rattle.scan.proofs.Stretches.{between-none, between-next}
+use Rattle.wire.specs.Ranges.{Between}
+use Rattle.wire.proofs.Ranges.{between-none, between-next}
 use Rattle.scan.proofs.stretch.until.Statement.{statement}
 use Rattle.scan.proofs.stretch.until.Tie as tie
 

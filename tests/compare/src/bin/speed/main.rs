@@ -16,6 +16,7 @@ use compare::library;
 use loads::{loads, Load};
 use measure::{measure, store_words, Buffers, Call, Times};
 use std::hint::black_box;
+use std::process::ExitCode;
 
 /// An operation as both programs do it; the archive may not have it yet.
 struct Operation {
@@ -136,8 +137,37 @@ fn line(load: &Load, lent: &Buffers, times: &Times) {
     );
 }
 
-fn main() {
-    for operation in [reading(), writing(), normal_length(), normalising()] {
+/// Makes only the calls of one program, for a tool that counts instructions: the operation's name, the load's number, the program
+/// and the number of calls. Prints the load's name, and its bytes and rows.
+fn only(words: &[String], operations: &[Operation]) -> Option<()> {
+    let [name, load, program, calls] = words else {
+        return None;
+    };
+    let operation = operations.iter().find(|known| known.name == name)?;
+    let load = loads().into_iter().nth(load.parse().ok()?)?;
+    let call = match program.as_str() {
+        "library" => operation.library?,
+        "second" => operation.second,
+        _ => return None,
+    };
+    let mut lent = Buffers::new(&load.message);
+    for _ in 0..calls.parse::<usize>().ok()? {
+        call(black_box(&mut lent));
+    }
+    println!("{}|{}|{}", load.name, lent.message.len(), lent.given[0]);
+    Some(())
+}
+
+fn main() -> ExitCode {
+    let operations = [reading(), writing(), normal_length(), normalising()];
+    let words: Vec<String> = std::env::args().skip(1).collect();
+    if !words.is_empty() {
+        return match only(&words, &operations) {
+            Some(()) => ExitCode::SUCCESS,
+            None => ExitCode::FAILURE,
+        };
+    }
+    for operation in operations {
         head(&operation);
         let Some(call) = operation.library else {
             println!("not in the archive yet");
@@ -149,4 +179,5 @@ fn main() {
             line(&load, &lent, &times);
         }
     }
+    ExitCode::SUCCESS
 }

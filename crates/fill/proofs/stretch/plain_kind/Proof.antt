@@ -2,8 +2,8 @@
 use mathlib.Core.Path.{sym}
 use Rattle.format.proofs.Choices.{ifLt-yes, ifLt-no}
 use Rattle.fill.specs.Plain.{plainKind}
-use Rattle.fill.proofs.plain.plain_kind.Statement.{statement}
-use Rattle.fill.proofs.plain.plain_kind.Tie as tie
+use Rattle.fill.proofs.stretch.plain_kind.Statement.{statement}
+use Rattle.fill.proofs.stretch.plain_kind.Tie as tie
 
 returns : tie.Need-returns
 unfolding plainKind

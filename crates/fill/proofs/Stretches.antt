@@ -1,0 +1,172 @@
+-- The rows of a stretch, one object more at a time. Assumes nothing.
+use Prim.Native.Nat.{ℕ, zero, suc, _+_, _-_, _*_, _%_, _≤_, _<_, zero-le}
+use native.Mathlib.Omega.{arith}
+use native.Mathlib.Nat.{le-refl, add-zero}
+use mathlib.Core.Path.{_≡_, refl, sym, ap, ap₂, _∙_, subst}
+use mathlib.Core.Logic.{_≢_}
+use mathlib.Core.List.{List, [], _∷_, _++_, append-assoc, append-nil}
+use lib.ListN.{length, take, drop, getD, length-append, length-drop}
+use lib.Seq.{length-take-le}
+use Rattle.format.specs.Items.{Leaf, Items, end, leaf, one, join}
+use Rattle.format.specs.Numbers.{twos}
+use Rattle.format.specs.Objects.{contents, integer}
+use Rattle.format.specs.Messages.{object, got, onto, next, reads}
+use Rattle.format.specs.Tables.{rows, count, dataWords, rowWords}
+use Rattle.format.specs.Answers.{over}
+use Rattle.format.proofs.Choices.{ifLt-yes, ifLt-no, split}
+use Rattle.format.proofs.Counts.{words, join-end, rows-join, count-join, words-join, row-words-join}
+use Rattle.format.proofs.Parts.{rest-part}
+use Rattle.format.proofs.Steps.{objectAt}
+use Rattle.format.proofs.TableLaws.{row-length}
+use Rattle.wire.specs.Ranges.{Between}
+use Rattle.wire.specs.Heads.{IsRow, LongPast, RowAt, lateKind, lateValue}
+use Rattle.wire.proofs.Ranges.{between-none, between-join, between-next}
+use Rattle.wire.proofs.RowsAt.{char-at, small-at, long-at, late-at}
+use Rattle.fill.specs.Plain.{plainKind}
+use Rattle.fill.specs.Stretch.{Stretched}
+use Rattle.fill.proofs.Over.{over-self, over-length, grown}
+use Rattle.fill.proofs.PlainLaws.{gap-head}
+use Rattle.fill.proofs.Turns.{onto-none, onto-onto, turn-at}
+
+leaf-rows : (d k v : ℕ) (l : Leaf) → IsRow l k v → rowWords d (one l) ≡ k ∷ 0 ∷ v ∷ []
+unfolding rowWords
+leaf-rows d k v l r = rw (r .kind, r .first, r .last d) refl
+
+leaf-row : (l : Leaf) → (rows (one l) ≡ 1) × (count (one l) ≡ 1)
+unfolding rows count
+leaf-row l = (refl, refl)
+
+leaf-none : (k v : ℕ) (l : Leaf) → IsRow l k v → words (one l) ≡ 0
+unfolding dataWords
+leaf-none k v l r = rw (r .none) refl
+
+pub plain-at : (b : ℕ) (s : List ℕ) → b < 0xc0 → RowAt b s (plainKind b) (b % 128) 0
+unfolding plainKind
+plain-at b s h =
+    split b 0x80
+    (λ l. let e : b % 128 ≡ b = omega arith in rw (ifLt-yes b 0x80, e) (char-at b s l))
+    (λ g. let e : b % 128 ≡ b % 64 = omega arith in rw (ifLt-no b 0x80, e) (small-at b s g h))
+
+module _ (s : List ℕ) (i used : ℕ) (t₀ : List ℕ) where
+  pub stretched-none : i ≤ length s → used ≤ length t₀ → Stretched s i used t₀ t₀ i 0
+  unfolding rows count dataWords rowWords
+  stretched-none h g =
+      let k : i - i ≡ 0 = omega arith in
+      record {
+        items = end;
+        from = le-refl i;
+        to = h;
+        said = λ d. rw k (onto-none (reads d (drop i s)));
+        rows-are = refl;
+        count-is = refl;
+        none = refl;
+        table-is = λ base. sym (ap (λ l. over l t₀) (append-nil (take used t₀)) ∙ over-self used t₀);
+        long = refl;
+        room = omega arith;
+      }
+
+  module _ (t : List ℕ) (e n : ℕ) (c : Stretched s i used t₀ t e n) (h : e < length s) (free : used + 3 * n + 3 ≤ length t) where
+    pub stretched-next : (k v u : ℕ) → u ≤ length s - (e + 1) → RowAt (getD s e 0) (drop (e + 1) s) k v u
+        → (t′ : List ℕ) → t′ ≡ over (take (used + 3 * n) t ++ (k ∷ 0 ∷ v ∷ [])) t → Stretched s i used t₀ t′ (e + 1 + u) (n + 1)
+    unfolding next objectAt object
+    stretched-next k v u l r t′ w =
+        let xs = c .items in
+        let x : Items = one (r .leaf) in
+        let f : e - i + (1 + u) ≡ e + 1 + u - i = let q = c .from in omega arith in
+        let q1 = c .from in
+        let q2 = c .rows-are in
+        let q3 = c .count-is in
+        let q4 = c .none in
+        let q5 = c .long in
+        let q6 = c .room in
+        let m = leaf-row (r .leaf) in
+        let z = leaf-none k v (r .leaf) (r .row) in
+        let tb : (base : ℕ) → t′ ≡ over (take used t₀ ++ rowWords base (join xs x)) t₀ = λ base.
+        let a : used + 3 * n ≡ length (take used t₀ ++ rowWords base xs) = omega (arith, length-append (take used t₀) (rowWords base xs), length-take-le used t₀ (omega arith), row-length base xs) in
+        w ∙ grown (take used t₀ ++ rowWords base xs) (k ∷ 0 ∷ v ∷ []) t₀ t (used + 3 * n) (c .table-is base) a
+        ∙ ap (λ y. over y t₀)
+        (append-assoc (take used t₀) (rowWords base xs) (k ∷ 0 ∷ v ∷ [])
+        ∙ ap (λ y. take used t₀ ++ y)
+        (ap (λ y. rowWords base xs ++ y) (sym (leaf-rows (base + words xs) k v (r .leaf) (r .row))) ∙ sym (row-words-join base xs x))) in
+        let long : length t′ ≡ length t₀ =
+        ap length (tb 0) ∙ over-length (take used t₀ ++ rowWords 0 (join xs x)) t₀ (omega (arith, length-append (take used t₀) (rowWords 0 (join xs x)), length-take-le used t₀ (omega arith), row-length 0 (join xs x), rows-join xs x)) in
+        record {
+          items = join xs x;
+          from = omega arith;
+          to = omega arith;
+          said = λ d.
+              c .said d
+              ∙ ap (onto xs (e - i)) (turn-at d s e h ∙ ap (λ y. next (object (λ a b. reads (suc d) (contents (drop (e + 1) s) a b)) y) (λ p. reads d (drop (e + 1 + p) s))) (r .head d))
+              ∙ onto-onto xs x (e - i) (1 + u) (reads d (drop (e + 1 + u) s))
+              ∙ ap (λ p. onto (join xs x) p (reads d (drop (e + 1 + u) s))) f;
+          rows-are = omega (arith, rows-join xs x);
+          count-is = omega (arith, count-join xs x);
+          none = omega (arith, words-join xs x);
+          table-is = tb;
+          long = long;
+          room = omega arith;
+        }
+
+    pub stretched-plain : getD s e 0 < 0xc0 → (t′ : List ℕ) → t′ ≡ over (take (used + 3 * n) t ++ (plainKind (getD s e 0) ∷ 0 ∷ getD s e 0 % 128 ∷ [])) t → Stretched s i used t₀ t′ (e + 1) (n + 1)
+    stretched-plain l t′ w =
+        subst (λ p. Stretched s i used t₀ t′ p (n + 1)) (add-zero (e + 1))
+        (stretched-next (plainKind (getD s e 0)) (getD s e 0 % 128) 0 zero-le (plain-at (getD s e 0) (drop (e + 1) s) l) t′ w)
+
+    pub stretched-late : 0xf8 ≤ getD s e 0 → getD s e 0 < 0xff → (k v : ℕ) → (k ≡ lateKind (getD s e 0)) × (v ≡ lateValue (getD s e 0))
+        → (t′ : List ℕ) → t′ ≡ over (take (used + 3 * n) t ++ (k ∷ 0 ∷ v ∷ [])) t → Stretched s i used t₀ t′ (e + 1) (n + 1)
+    stretched-late g l k v q t′ w =
+        subst (λ p. Stretched s i used t₀ t′ p (n + 1)) (add-zero (e + 1))
+        (stretched-next k v 0 zero-le (rw (q .0, q .1) (late-at (getD s e 0) (drop (e + 1) s) g l)) t′ w)
+
+    pub stretched-long : (u v : ℕ) → LongPast (getD s e 0) (length s - (e + 1)) u → u ≢ 0 → v ≡ twos 8 (integer (take u (take (length s - (e + 1)) (drop (e + 1) s))))
+        → (t′ : List ℕ) → t′ ≡ over (take (used + 3 * n) t ++ (1 ∷ 0 ∷ v ∷ [])) t → Stretched s i used t₀ t′ (e + 1 + u) (n + 1)
+    stretched-long u v l z ev t′ w =
+        let q = l (omega arith) in
+        stretched-next 1 v u (q .3) (long-at (getD s e 0) u v (drop (e + 1) s) (q .0) (q .1) (q .2) (rw (length-drop (e + 1) s) (q .3)) (rw (rest-part s (e + 1)) at ev)) t′ w
+
+-- ---- padding
+gap-object : (d b : ℕ) (s : List ℕ) → 0xff ≤ b → b ≤ 0xff → objectAt d b s ≡ got end 0
+unfolding objectAt object
+gap-object d b s g h = ap (object (λ a m. reads (suc d) (contents s a m))) (gap-head d b s (omega arith))
+
+-- n bytes of padding from e on
+gaps : (n e : ℕ) (s : List ℕ) → e + n ≤ length s → Between 0xff 0xff e (e + n) s → (d : ℕ) → reads d (drop e s) ≡ onto end n (reads d (drop (e + n) s))
+unfolding next
+gaps zero e s h w d = rw (add-zero e) (onto-none (reads d (drop e s)))
+gaps (suc n) e s h w d =
+    let z = w e (le-refl e) (omega arith) in
+    let f : e + 1 + 0 + n ≡ e + suc n = omega arith in
+    let g : 1 + 0 + n ≡ suc n = omega arith in
+    turn-at d s e (omega arith)
+    ∙ ap (λ y. next y (λ p. reads d (drop (e + 1 + p) s))) (gap-object d (getD s e 0) (drop (e + 1) s) (z .0) (z .1))
+    ∙ ap (onto end (1 + 0)) (gaps n (e + 1 + 0) s (omega arith) (λ j p q. w j (omega arith) (omega arith)) d)
+    ∙ onto-onto end end (1 + 0) n (reads d (drop (e + 1 + 0 + n) s))
+    ∙ (unfold join in ap₂ (λ k m. onto end k (reads d (drop m s))) g f)
+
+stretched-gaps : (s : List ℕ) (i used : ℕ) (t₀ t : List ℕ) (e n m : ℕ) → Stretched s i used t₀ t e n → (e ≤ m) × (m ≤ length s) × Between 0xff 0xff e m s → Stretched s i used t₀ t m n
+stretched-gaps s i used t₀ t e n m c w =
+    let k : e + (m - e) ≡ m = omega arith in
+    let f : e - i + (m - e) ≡ m - i = let q = c .from in omega arith in
+    record {
+      items = c .items;
+      from = let q = c .from in omega arith;
+      to = w .1;
+      said = λ d.
+          c .said d
+          ∙ ap (onto (c .items) (e - i)) (gaps (m - e) e s (omega arith) (rw k (w .2)) d)
+          ∙ onto-onto (c .items) end (e - i) (m - e) (reads d (drop (e + (m - e)) s))
+          ∙ ap (λ y. onto y (e - i + (m - e)) (reads d (drop (e + (m - e)) s))) (join-end (c .items))
+          ∙ ap₂ (λ a b. onto (c .items) a (reads d (drop b s))) f k;
+      rows-are = c .rows-are;
+      count-is = c .count-is;
+      none = c .none;
+      table-is = c .table-is;
+      long = c .long;
+      room = c .room;
+    }
+
+-- the padding that starts at e
+pub stretched-padding : (s : List ℕ) (i used : ℕ) (t₀ t : List ℕ) (e n m : ℕ) → Stretched s i used t₀ t e n → getD s e 0 ≡ 0xff → (e + 1 ≤ m) × (m ≤ length s) × Between 0xff 0xff (e + 1) m s → Stretched s i used t₀ t m n
+stretched-padding s i used t₀ t e n m c g w =
+    stretched-gaps s i used t₀ t e n m c
+    (omega arith, w .1, between-join 0xff 0xff e (e + 1) m s (between-next 0xff 0xff e e s (between-none 0xff 0xff e s) (omega arith) (omega arith)) (w .2))

@@ -1,0 +1,8 @@
+-- Bytes that lie within a range.
+use Prim.Native.Nat.{ℕ, _≤_, _<_}
+use mathlib.Core.List.{List}
+use lib.ListN.{getD}
+
+-- the bytes from i to e are lo to hi
+abbrev pub Between : ℕ → ℕ → ℕ → ℕ → List ℕ → Type 0
+Between lo hi i e s = (j : ℕ) → i ≤ j → j < e → (lo ≤ getD s j 0) × (getD s j 0 ≤ hi)
