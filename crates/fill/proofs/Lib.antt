@@ -1,5 +1,6 @@
 pub mod Over
 pub mod CopyLaws
+pub mod RowFill
 pub mod AgainLaws
 pub mod WithinLaws
 pub mod Turns

@@ -29,10 +29,6 @@ unfolding answer A.readingOf
 read-refused (refused f) t n p e = cc
 read-refused (says xs) t n p e = let z : _≡_ {A = ℕ} 0 1 = cc in absurd (omega arith)
 
--- what the summary of an accepted message says
-pub record Measured (o : Outcome) (s : Summary) : Type 0 where
-  pub told : Accepted s ≡ answer o
-
 pub read-rows : (o : Outcome) (t : List ℕ) (s : Summary) → Accepted s ≡ answer o → 16384 < s .rows → readTold (readAnswer 10 0 0) t ≡ A.readingOf o t
 unfolding answer sumOf A.readingOf A.laid
 read-rows (refused f) t s e h = let z : _≡_ {A = ℕ} 0 1 = cc in absurd (omega arith)
