@@ -31,6 +31,8 @@ mod library;
 mod operations;
 mod refused;
 mod rows;
+#[allow(unsafe_code)]
+pub mod sys;
 
 pub use bits::Bits;
 pub use operations::{normal_length, normalise, read, write, Normalised, Read};

@@ -3,77 +3,26 @@
 //! empty one may have any pointer. Slices that are borrowed as these are cannot
 //! overlap where one of them is written to.
 
-/// The declarations of the C header.
-mod declared {
-    #[repr(C)]
-    pub struct Reading {
-        pub number: u64,
-        pub place: u64,
-        pub words: u64,
-    }
-
-    #[repr(C)]
-    pub struct Writing {
-        pub number: u64,
-        pub length: u64,
-    }
-
-    #[repr(C)]
-    pub struct Normalising {
-        pub number: u64,
-        pub place: u64,
-        pub words: u64,
-        pub length: u64,
-    }
-
-    extern "C" {
-        pub fn msdtp_read(
-            message: *const u8,
-            message_len: usize,
-            table: *mut u64,
-            table_len: usize,
-        ) -> Reading;
-
-        pub fn msdtp_write(
-            table: *const u64,
-            table_len: usize,
-            output: *mut u8,
-            output_len: usize,
-        ) -> Writing;
-
-        pub fn msdtp_normal_length(table: *const u64, table_len: usize) -> Writing;
-
-        pub fn msdtp_normalise(
-            message: *const u8,
-            message_len: usize,
-            table: *mut u64,
-            table_len: usize,
-            output: *mut u8,
-            output_len: usize,
-        ) -> Normalising;
-    }
-}
-
-pub use declared::{Normalising, Reading, Writing};
+use crate::sys::{self, Normalising, Reading, Writing};
 
 /// Reads a message into a table.
 pub fn read(message: &[u8], table: &mut [u64]) -> Reading {
     let (words, rows) = (table.len(), table.as_mut_ptr());
     // Both slices live through the call, and the table is borrowed for it alone.
-    unsafe { declared::msdtp_read(message.as_ptr(), message.len(), rows, words) }
+    unsafe { sys::msdtp_read(message.as_ptr(), message.len(), rows, words) }
 }
 
 /// Writes a table's normal form into an output.
 pub fn write(table: &[u64], output: &mut [u8]) -> Writing {
     let (bytes, to) = (output.len(), output.as_mut_ptr());
     // Both slices live through the call, and the output is borrowed for it alone.
-    unsafe { declared::msdtp_write(table.as_ptr(), table.len(), to, bytes) }
+    unsafe { sys::msdtp_write(table.as_ptr(), table.len(), to, bytes) }
 }
 
 /// Tells the length of a table's normal form.
 pub fn normal_length(table: &[u64]) -> Writing {
     // The slice lives through the call.
-    unsafe { declared::msdtp_normal_length(table.as_ptr(), table.len()) }
+    unsafe { sys::msdtp_normal_length(table.as_ptr(), table.len()) }
 }
 
 /// Reads a message into a table and writes its normal form.
@@ -83,5 +32,5 @@ pub fn normalise(message: &[u8], table: &mut [u64], output: &mut [u8]) -> Normal
     let (bytes, to) = (output.len(), output.as_mut_ptr());
     // All slices live through the call; the table and the output are borrowed
     // for it alone.
-    unsafe { declared::msdtp_normalise(from, length, rows, words, to, bytes) }
+    unsafe { sys::msdtp_normalise(from, length, rows, words, to, bytes) }
 }

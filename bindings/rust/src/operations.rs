@@ -2,6 +2,7 @@
 
 use crate::library;
 use crate::refused::Refused;
+use crate::sys::Writing;
 
 /// What an accepted reading answers.
 #[derive(Clone, Copy, Debug, PartialEq, Eq)]
@@ -88,7 +89,7 @@ pub fn normal_length(table: &[u64]) -> Result<usize, Refused> {
 }
 
 /// What writing answers, as a result.
-fn written(answer: library::Writing) -> Result<usize, Refused> {
+fn written(answer: Writing) -> Result<usize, Refused> {
     let length = answer.length as usize;
     match answer.number {
         0 => Ok(length),

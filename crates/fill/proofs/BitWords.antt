@@ -5,17 +5,19 @@ use native.Mathlib.Nat.{mul-add-div-right, div-eq-of-lt, mod-eq-of-lt, add-zero}
 use mathlib.Core.Path.{_≡_, refl, sym, ap, ap₂, _∙_}
 use mathlib.Core.Bool.{Bool}
 use mathlib.Core.List.{List, [], _∷_, _++_}
-use lib.ListN.{length, take, drop, set, length-drop, take-append-drop}
+use lib.ListN.{length, take, drop, getD, set, length-drop, take-append-drop}
 use lib.Seq.{take-take, take-nil, drop-nil, drop-drop, take-append-add, drop-append-add, length-take-le}
 use lib.Pow.{pow-pos}
 use Rattle.format.specs.Numbers.{Bytes, val}
 use Rattle.format.specs.Bits.{bit, num, bitsOf, spread, adjusted, packed}
 use Rattle.format.specs.Answers.{over}
 use Rattle.format.proofs.Choices.{split}
-use Rattle.format.proofs.Digits.{bytes-take}
+use Rattle.format.proofs.Digits.{bytes-of, bytes-take}
 use Rattle.format.proofs.Parts.{drop-take, rest-part}
 use Rattle.format.proofs.BitLaws.{bits-length, spread-length, packed-length, adjusted-lt}
 use Rattle.format.proofs.Marker.{num-lt, num-append, num-spread, adjusted-num}
+use Rattle.wire.specs.WordsAt.{wordAt}
+use Rattle.wire.proofs.WordLaws.{high-bytes}
 use Rattle.fill.proofs.Over.{grown, set-word}
 
 -- ---- bits of some of the bytes
@@ -77,11 +79,11 @@ part-word c n k v b h i j e =
     let w = word-is c n k b h i j in
     rw (e, ← w) (mod-eq-of-lt (adjusted-lt 64 (take n (spread 8 c))))
 
-pub full-word : (c : List ℕ) (v : ℕ) → Bytes c → 8 ≤ length c → v ≡ val (take 8 c) → v ≡ adjusted 64 (take 64 (spread 8 c))
+pub full-word : (c : List ℕ) (v : ℕ) → ((i : ℕ) → getD c i 0 < 256) → 8 ≤ length c → v ≡ wordAt 0 c → v ≡ adjusted 64 (take 64 (spread 8 c))
 full-word c v b j e =
-    let w : adjusted 64 (take 64 (spread 8 c)) ≡ val (take 8 c) / 1 * 1 = word-is c 64 8 b (omega arith) (omega arith) j in
-    let d : val (take 8 c) / 1 * 1 ≡ val (take 8 c) = omega arith in
-    e ∙ sym (w ∙ d)
+    let w : adjusted 64 (take 64 (spread 8 c)) ≡ val (take 8 c) / 1 * 1 = word-is c 64 8 (bytes-of c b) (omega arith) (omega arith) j in
+    let h : wordAt 0 c / 1 ≡ val (take 8 c) = high-bytes c 8 b j (omega arith) (omega arith) in
+    e ∙ sym (w ∙ omega arith)
 
 -- ---- word after word
 pub packed-more : (j : ℕ) (bs : List Bool) → packed 64 (j + 1) bs ≡ packed 64 j bs ++ (adjusted 64 (drop (64 * j) bs) ∷ [])

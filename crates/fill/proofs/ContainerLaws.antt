@@ -129,7 +129,7 @@ module _ (xs : Items) (f : Filled) (base : ℕ) (t ys : List ℕ) (er : f .rows 
   LaidAs w u =
       Laid (closed w xs) base t (closedRows w f (filled (ownWords w))) (closedPlaced w f u .rows) (closedPlaced w f u .count) (closedPlaced w f u .words)
 
-  group-laid : (g : Group) → 3 ≤ length t → ys ≡ over (rowWords base xs) (take (length t - 3) (drop 3 t))
+  pub group-laid : (g : Group) → 3 ≤ length t → ys ≡ over (rowWords base xs) (take (length t - 3) (drop 3 t))
       → Laid (group g xs end) base t (over (rowKind g ∷ f .count ∷ f .rows ∷ []) (filled 3)) (f .rows + 1) 1 (f .words)
   unfolding rows count dataWords rowWords
   group-laid g h e =

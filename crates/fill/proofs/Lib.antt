@@ -1,7 +1,8 @@
 pub mod Over
 pub mod CopyLaws
-pub mod RowFill
 pub mod AgainLaws
+pub mod Doubling
+pub mod RowFill
 pub mod WithinLaws
 pub mod Turns
 pub mod RowLaws
@@ -9,6 +10,8 @@ pub mod PlainLaws
 pub mod ContainerLaws
 pub mod BitWords
 pub mod Stretches
+pub mod ShortLaws
 pub mod RowWalk
+pub mod ShortWalk
 pub mod WordWalk
 pub mod WholeLaws

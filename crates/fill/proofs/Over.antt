@@ -4,9 +4,13 @@ use native.Mathlib.Omega.{arith}
 use mathlib.Core.Path.{_≡_, refl, sym, ap, ap₂, _∙_}
 use mathlib.Core.List.{List, [], _∷_, _++_, append-assoc, append-nil}
 use lib.ListN.{length, take, drop, set, length-append, length-drop, drop-of-length-le}
-use lib.Seq.{take-at, drop-at, drop-drop, drop-append-add, length-take-le, set-split}
+use lib.Seq.{take-at, drop-at, take-append-le, drop-drop, drop-append-add, length-take-le, set-split}
 use Rattle.format.specs.Answers.{over}
 use Rattle.format.proofs.Parts.{rest-part}
+
+pub none-in : (l : List ℕ) → length l ≡ 0 → l ≡ []
+none-in [] e = refl
+none-in (x ∷ l) e = absurd (omega arith)
 
 pub over-none : (t : List ℕ) → over [] t ≡ t
 unfolding over
@@ -27,9 +31,9 @@ pub over-front : (l t : List ℕ) (n : ℕ) → n ≡ length l → take n (over 
 unfolding over
 over-front l t n e = take-at l (drop (length l) t) n (sym e)
 
-pub over-rest : (l t : List ℕ) (n : ℕ) → n ≡ length l → drop n (over l t) ≡ drop n t
+pub over-part : (n : ℕ) (l t : List ℕ) → n ≤ length l → take n (over l t) ≡ take n l
 unfolding over
-over-rest l t n e = drop-at l (drop (length l) t) n (sym e) ∙ ap (λ m. drop m t) (sym e)
+over-part n l t h = take-append-le n l (drop (length l) t) h
 
 -- more words hide fewer
 pub over-over : (l m t : List ℕ) → length l ≤ length m → over m (over l t) ≡ over m t
@@ -60,10 +64,6 @@ part-length u t = rw (rest-part t u) (length-drop u t)
 -- a part that was lent, as it comes back
 pub back : (u : ℕ) (t ys : List ℕ) → take u t ++ (ys ++ drop (length t - u) (drop u t)) ≡ take u t ++ ys
 back u t ys = rw (drop-of-length-le (drop u t) {i = length t - u} (omega (arith, length-drop u t)), append-nil) refl
-
-pub back-length : (u : ℕ) (t ys : List ℕ) → u ≤ length t → length ys ≡ length (take (length t - u) (drop u t))
-    → length (take u t ++ (ys ++ drop (length t - u) (drop u t))) ≡ length t
-back-length u t ys h e = rw (back u t ys) (omega (arith, length-append (take u t) ys, length-take-le u t h, part-length u t))
 
 pub lent : (u : ℕ) (m t ys : List ℕ) → u ≤ length t → ys ≡ over m (take (length t - u) (drop u t))
     → take u t ++ (ys ++ drop (length t - u) (drop u t)) ≡ over (take u t ++ m) t

@@ -17,17 +17,16 @@ use Rattle.format.specs.Answers.{over}
 use Rattle.format.specs.Objects as O
 use Rattle.format.specs.Messages.{Outcome, bad, got, object, reads}
 use Rattle.format.specs.declared.Class.the-variants as C
-use Rattle.format.proofs.Choices.{split, ifLt-yes, ifLt-no}
+use Rattle.format.proofs.Choices.{split}
 use Rattle.format.proofs.Parts.{middle-part}
 use Rattle.format.proofs.Steps.{objectAt}
 use Rattle.format.proofs.BitLaws.{packed-length, spread-length}
-use Rattle.format.proofs.TypeBytes.{char-class, small-class}
 use Rattle.wire.proofs.head.Head.{the-type}
 use Rattle.wire.specs.declared.head.Head.{Head}
 use Rattle.wire.specs.declared.head.Head.the-variants.{Stop, Gap, Row, Short, Long, Text, Open}
 use Rattle.wire.specs.Heads.{HeadIs, IsRow, IsShort, bitsFrom}
-use Rattle.wire.proofs.HeadLaws.{by-class, char-row, sinteger-row, padding-gap}
-use Rattle.fill.specs.Plain.{Apt, plainKind, charRows, plainRows, plainWords, placedAs, plainPlaced, plainStored}
+use Rattle.wire.proofs.HeadLaws.{by-class, padding-gap}
+use Rattle.fill.specs.Plain.{Apt, charRows, plainRows, plainWords, placedAs, plainPlaced, plainStored}
 use Rattle.fill.proofs.Over.{grown, row-before, set-row}
 
 -- ---- a string's characters
@@ -36,17 +35,17 @@ unfolding O.characters rowWords charRows leafKind leafA leafB leafWords
 char-rows base [] = refl
 char-rows base (b ∷ s) = let e : base + 0 ≡ base = omega arith in ap (λ r. 3 ∷ 0 ∷ b % 128 ∷ r) (rw e (char-rows base s))
 
-chars-rows : (s : List ℕ) → rows (O.characters s) ≡ length s
+pub chars-rows : (s : List ℕ) → rows (O.characters s) ≡ length s
 unfolding O.characters rows
 chars-rows [] = refl
 chars-rows (b ∷ s) = ap suc (chars-rows s)
 
-chars-count : (s : List ℕ) → count (O.characters s) ≡ length s
+pub chars-count : (s : List ℕ) → count (O.characters s) ≡ length s
 unfolding O.characters count
 chars-count [] = refl
 chars-count (b ∷ s) = ap suc (chars-count s)
 
-chars-words : (s : List ℕ) → dataWords (O.characters s) ≡ []
+pub chars-words : (s : List ℕ) → dataWords (O.characters s) ≡ []
 unfolding O.characters dataWords leafWords
 chars-words [] = refl
 chars-words (b ∷ s) = chars-words s
@@ -220,17 +219,6 @@ long-words s a n u t e =
     let d : u - a ≡ bytesFor n = omega arith in
     ap (λ m. over (packed 64 (wordsFor n) (take n (spread 8 (take m (drop a s))))) t) d
 
--- ---- one-byte objects
-pub plain-head : (d b : ℕ) (s : List ℕ) → b < 0xc0 → HeadIs s (Row (plainKind b) (b % 128) 0) (O.headOf d b s)
-unfolding plainKind
-plain-head d b s h =
-    split b 0x80
-    (λ l. let e : b % 128 ≡ b = omega arith in rw (ifLt-yes b 0x80, e) (by-class d b s (Row 3 b 0) C.Char7 (sym (char-class b l)) (char-row d b s)))
-    (λ g.
-    let e : b % 128 ≡ b % 64 = omega arith in
-    let n : 0x80 + (b - 0x80) ≡ b = omega arith in
-    let c = rw n at (small-class (b - 0x80) (omega arith)) in
-    rw (ifLt-no b 0x80, e) (by-class d b s (Row 1 (b % 64) 0) C.Sinteger (sym c) (sinteger-row d b s (g, h))))
-
+-- ---- padding
 pub gap-head : (d b : ℕ) (s : List ℕ) → b ≡ 0xff → HeadIs s Gap (O.headOf d b s)
 gap-head d b s e = rw e (by-class d 0xff s Gap C.Padding (unfold Rattle.format.specs.Classes.classOf in refl) (padding-gap d 0xff s))

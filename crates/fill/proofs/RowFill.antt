@@ -1,15 +1,17 @@
 -- One row without data words, stored again and again: every row so far is the first. Assumes nothing.
-use Prim.Native.Nat.{ℕ, _+_, _-_, _*_, _^_, _≤_, _<_}
+use Prim.Native.Nat.{ℕ, _+_, _*_, _^_, _≤_, _<_}
 use native.Mathlib.Omega.{arith}
-use native.Mathlib.Nat.{mod-eq-of-lt}
-use mathlib.Core.Path.{_≡_, refl, sym, ap₂, _∙_}
-use mathlib.Core.List.{List}
-use lib.ListN.{length, take, getD, set, length-set}
-use lib.Seq.{getD-set-same, getD-set-other}
+use native.Mathlib.Nat.{mod-eq-of-lt, mul-zero, mul-one}
+use mathlib.Core.Path.{_≡_, refl, sym, ap, ap₂, _∙_}
+use mathlib.Core.List.{List, [], _∷_, _++_}
+use lib.ListN.{length, take, getD, set}
+use lib.Seq.{length-take-le}
 use Rattle.format.proofs.Choices.{byEq}
 use Rattle.format.specs.Answers.{over}
-use Rattle.fill.specs.Copies.{shift, copies}
-use Rattle.fill.proofs.CopyLaws.{Copying, copying-start, copying-step}
+use Rattle.fill.specs.Copies.{shift, moved, copies}
+use Rattle.fill.proofs.Over.{over-length, grown, set-row}
+use Rattle.fill.proofs.CopyLaws.{copies-length}
+use Rattle.fill.proofs.Doubling.{copies-add, Doubled, doubled-start}
 
 -- with no data words before it, a row's last word stays
 stays : (k b : ℕ) → b < 2 ^ 64 → shift 0 k b ≡ b
@@ -18,36 +20,49 @@ stays k b h =
     let z : b + 0 ≡ b = omega arith in
     byEq (λ (x : ℕ). x ≡ b) k 2 (λ e. rw z (mod-eq-of-lt h)) (λ n. refl)
 
--- the filling loop's invariant, with j rows there, the last of them with these words
-pub record Filling (k v0 v1 v2 : ℕ) (t₀ t : List ℕ) (j : ℕ) : Type 0 where
-  pub copied : Copying 0 1 k t₀ t j
-  pub small : v2 < 2 ^ 64
-  pub last0 : v0 ≡ getD t (3 * (j - 1)) 0
-  pub last1 : v1 ≡ getD t (3 * (j - 1) + 1) 0
-  pub last2 : v2 ≡ getD t (3 * (j - 1) + 2) 0
+-- the first row, once more
+row-again : (j : ℕ) (t : List ℕ) → 3 ≤ length t → getD t 2 0 < 2 ^ 64 → moved (j * 0) (copies 0 1 (take (3 * 1) t)) ≡ getD t 0 0 ∷ getD t 1 0 ∷ getD t 2 0 ∷ []
+unfolding moved copies
+row-again j [] h s = absurd (omega arith)
+row-again j (x ∷ []) h s = absurd (omega arith)
+row-again j (x ∷ y ∷ []) h s = absurd (omega arith)
+row-again j (x ∷ y ∷ z ∷ t) h s = rw (mul-zero j) (ap (λ b. x ∷ y ∷ b ∷ []) (stays x z s))
 
-pub filling-start : (k : ℕ) (t : List ℕ) → 0 < k → 3 * (k * 1) ≤ length t → getD t 2 0 < 2 ^ 64
-    → Filling k (getD t 0 0) (getD t 1 0) (getD t 2 0) t t 1
-filling-start k t z room s = record { copied = copying-start 0 1 k t z room; small = s; last0 = refl; last1 = refl; last2 = refl }
+-- the filling loop's invariant, with j rows there; these are the words of the first
+pub record Filling (k v0 v1 v2 : ℕ) (t₀ t : List ℕ) (j : ℕ) : Type 0 where
+  pub copied : Doubled 0 1 k t₀ t j
+  pub small : getD t₀ 2 0 < 2 ^ 64
+  pub first0 : v0 ≡ getD t₀ 0 0
+  pub first1 : v1 ≡ getD t₀ 1 0
+  pub first2 : v2 ≡ getD t₀ 2 0
+
+pub filling-start : (k : ℕ) (t : List ℕ) → 0 < k → getD t 2 0 < 2 ^ 64 → Filling k (getD t 0 0) (getD t 1 0) (getD t 2 0) t t 1
+filling-start k t z s = record { copied = doubled-start 0 1 k t z; small = s; first0 = refl; first1 = refl; first2 = refl }
 
 pub filling-step : (k v0 v1 v2 : ℕ) (t₀ t : List ℕ) (j : ℕ) → 3 * (k * 1) ≤ length t₀ → j < k → Filling k v0 v1 v2 t₀ t j
     → Filling k v0 v1 v2 t₀ (set (set (set t (3 * j) v0) (3 * j + 1) v1) (3 * j + 2) v2) (j + 1)
 filling-step k v0 v1 v2 t₀ t j room h f =
     let c = f .copied in
-    let lg = c .long in
-    let t1 : List ℕ = set t (3 * j) v0 in
-    let t2 : List ℕ = set t1 (3 * j + 1) v1 in
-    let l1 : length t1 ≡ length t = length-set t (3 * j) v0 in
-    let l2 : length t2 ≡ length t1 = length-set t1 (3 * j + 1) v1 in
-    let p2 : v2 ≡ shift 0 (getD t (3 * (j - 1)) 0) (getD t (3 * (j - 1) + 2) 0) =
-    sym (stays v0 v2 (f .small)) ∙ ap₂ (shift 0) (f .last0) (f .last2) in
-    let n : j + 1 - 1 ≡ j = omega arith in
+    let some = c .some in
+    let long = c .long in
+    let k1 = mul-one k in
+    let l : List ℕ = take (3 * 1) t₀ in
+    let ll : length l ≡ 3 * 1 = length-take-le (3 * 1) t₀ (omega arith) in
+    let lj : length (copies 0 j l) ≡ 3 * (j * 1) = copies-length 0 1 j l ll in
+    let ls : length (copies 0 (j + 1) l) ≡ 3 * ((j + 1) * 1) = copies-length 0 1 (j + 1) l ll in
+    let u : List ℕ = set (set (set t (3 * j) v0) (3 * j + 1) v1) (3 * j + 2) v2 in
+    let row : v0 ∷ v1 ∷ v2 ∷ [] ≡ moved (j * 0) (copies 0 1 l) =
+    ap₂ (λ x y. x ∷ v1 ∷ y ∷ []) (f .first0) (f .first2) ∙ ap (λ x. getD t₀ 0 0 ∷ x ∷ getD t₀ 2 0 ∷ []) (f .first1) ∙ sym (row-again j t₀ (omega arith) (f .small)) in
+    let tb : u ≡ over (copies 0 (j + 1) l) t₀ =
+    set-row (3 * j) t v0 v1 v2 (omega arith)
+    ∙ grown (copies 0 j l) (v0 ∷ v1 ∷ v2 ∷ []) t₀ t (3 * j) (c .table-is) (omega (arith, mul-one j))
+    ∙ ap (λ z. over z t₀) (ap (λ z. copies 0 j l ++ z) row ∙ sym (copies-add 0 1 j 1 l (c .some) ll)) in
     record {
-      copied = copying-step 0 1 k t₀ t j v0 v1 v2 room (omega arith) c (f .last0) (f .last1) p2;
+      copied = record { some = omega arith; upto = omega arith; long = ap length tb ∙ over-length (copies 0 (j + 1) l) t₀ (omega (arith, mul-one (j + 1))); table-is = tb };
       small = f .small;
-      last0 = rw n (sym (getD-set-other t2 (3 * j + 2) (3 * j) v2 0 (omega arith) ∙ getD-set-other t1 (3 * j + 1) (3 * j) v1 0 (omega arith) ∙ getD-set-same t (3 * j) v0 0 (omega arith)));
-      last1 = rw n (sym (getD-set-other t2 (3 * j + 2) (3 * j + 1) v2 0 (omega arith) ∙ getD-set-same t1 (3 * j + 1) v1 0 (omega arith)));
-      last2 = rw n (sym (getD-set-same t2 (3 * j + 2) v2 0 (omega arith)));
+      first0 = f .first0;
+      first1 = f .first1;
+      first2 = f .first2;
     }
 
 -- rows that are one row, without data words

@@ -3,7 +3,6 @@ use Prim.Native.Nat.{ℕ, zero, suc, _+_, _-_, _*_, _%_, _≤_, _<_, zero-le}
 use native.Mathlib.Omega.{arith}
 use native.Mathlib.Nat.{le-refl, add-zero}
 use mathlib.Core.Path.{_≡_, refl, sym, ap, ap₂, _∙_, subst}
-use mathlib.Core.Logic.{_≢_}
 use mathlib.Core.List.{List, [], _∷_, _++_, append-assoc, append-nil}
 use lib.ListN.{length, take, drop, getD, length-append, length-drop}
 use lib.Seq.{length-take-le}
@@ -13,17 +12,16 @@ use Rattle.format.specs.Objects.{contents, integer}
 use Rattle.format.specs.Messages.{object, got, onto, next, reads}
 use Rattle.format.specs.Tables.{rows, count, dataWords, rowWords}
 use Rattle.format.specs.Answers.{over}
-use Rattle.format.proofs.Choices.{ifLt-yes, ifLt-no, split}
+use Rattle.format.proofs.Choices.{split}
 use Rattle.format.proofs.Counts.{words, join-end, rows-join, count-join, words-join, row-words-join}
 use Rattle.format.proofs.Parts.{rest-part}
 use Rattle.format.proofs.Steps.{objectAt}
 use Rattle.format.proofs.TableLaws.{row-length}
 use Rattle.wire.specs.Ranges.{Between}
-use Rattle.wire.specs.Heads.{IsRow, LongPast, RowAt, lateKind, lateValue}
+use Rattle.wire.specs.Heads.{IsRow, RowAt, lateKind, lateValue}
 use Rattle.wire.proofs.Ranges.{between-none, between-join, between-next}
 use Rattle.wire.proofs.RowsAt.{char-at, small-at, long-at, late-at}
-use Rattle.fill.specs.Plain.{plainKind}
-use Rattle.fill.specs.Stretch.{Stretched}
+use Rattle.fill.specs.Stretch.{Ranged, LongOf, Bare, Stretched}
 use Rattle.fill.proofs.Over.{over-self, over-length, grown}
 use Rattle.fill.proofs.PlainLaws.{gap-head}
 use Rattle.fill.proofs.Turns.{onto-none, onto-onto, turn-at}
@@ -40,12 +38,79 @@ leaf-none : (k v : ℕ) (l : Leaf) → IsRow l k v → words (one l) ≡ 0
 unfolding dataWords
 leaf-none k v l r = rw (r .none) refl
 
-pub plain-at : (b : ℕ) (s : List ℕ) → b < 0xc0 → RowAt b s (plainKind b) (b % 128) 0
-unfolding plainKind
-plain-at b s h =
-    split b 0x80
-    (λ l. let e : b % 128 ≡ b = omega arith in rw (ifLt-yes b 0x80, e) (char-at b s l))
-    (λ g. let e : b % 128 ≡ b % 64 = omega arith in rw (ifLt-no b 0x80, e) (small-at b s g h))
+-- the one-byte items by their ranges
+pub char-range : Ranged 0 0x7f 3
+char-range b s g h = let e : b - 0 ≡ b = omega arith in rw e (char-at b s (omega arith))
+
+pub small-range : Ranged 0x80 0xbf 1
+small-range b s g h = let e : b - 0x80 ≡ b % 64 = omega arith in rw e (small-at b s g (omega arith))
+
+-- ---- bytes without data words
+gap-object : (d b : ℕ) (s : List ℕ) → 0xff ≤ b → b ≤ 0xff → objectAt d b s ≡ got end 0
+unfolding objectAt object
+gap-object d b s g h = ap (object (λ a m. reads (suc d) (contents s a m))) (gap-head d b s (omega arith))
+
+module _ (s : List ℕ) (i : ℕ) where
+  pub bare-none : i ≤ length s → Bare s i i
+  unfolding dataWords
+  bare-none h =
+      let k : i - i ≡ 0 = omega arith in
+      record { items = end; from = le-refl i; to = h; said = λ d. rw k (onto-none (reads d (drop i s))); none = refl }
+
+  module _ (e : ℕ) (c : Bare s i e) (h : e < length s) where
+    -- one object more
+    bare-object : (x : Items) (u : ℕ) → u ≤ length s - (e + 1) → words x ≡ 0 → ((d : ℕ) → objectAt d (getD s e 0) (drop (e + 1) s) ≡ got x u)
+        → Bare s i (e + 1 + u)
+    unfolding next
+    bare-object x u l z o =
+        let xs = c .items in
+        let q = c .from in
+        let n = c .none in
+        let f : e - i + (1 + u) ≡ e + 1 + u - i = omega arith in
+        record {
+          items = join xs x;
+          from = omega arith;
+          to = omega arith;
+          said = λ d.
+              c .said d
+              ∙ ap (onto xs (e - i)) (turn-at d s e h ∙ ap (λ y. next y (λ p. reads d (drop (e + 1 + p) s))) (o d))
+              ∙ onto-onto xs x (e - i) (1 + u) (reads d (drop (e + 1 + u) s))
+              ∙ ap (λ p. onto (join xs x) p (reads d (drop (e + 1 + u) s))) f;
+          none = omega (arith, words-join xs x);
+        }
+
+    pub bare-row : (k v u : ℕ) → u ≤ length s - (e + 1) → RowAt (getD s e 0) (drop (e + 1) s) k v u → Bare s i (e + 1 + u)
+    unfolding objectAt object
+    bare-row k v u l r =
+        bare-object (one (r .leaf)) u l (leaf-none k v (r .leaf) (r .row))
+        (λ d. ap (object (λ a n. reads (suc d) (contents (drop (e + 1) s) a n))) (r .head d))
+
+    pub bare-low : getD s e 0 < 0xc0 → Bare s i (e + 1)
+    bare-low l =
+        let b : ℕ = getD s e 0 in
+        subst (Bare s i) (add-zero (e + 1))
+        (split b 0x80
+        (λ l. bare-row 3 b 0 zero-le (char-at b (drop (e + 1) s) l))
+        (λ g. bare-row 1 (b % 64) 0 zero-le (small-at b (drop (e + 1) s) g l)))
+
+    pub bare-high : 0xf8 ≤ getD s e 0 → getD s e 0 ≤ 0xff → Bare s i (e + 1)
+    bare-high g l =
+        let b : ℕ = getD s e 0 in
+        subst (Bare s i) (add-zero (e + 1))
+        (split b 0xff
+        (λ l. bare-row (lateKind b) (lateValue b) 0 zero-le (late-at b (drop (e + 1) s) g l))
+        (λ f. bare-object end 0 zero-le (unfold dataWords in refl) (λ d. gap-object d b (drop (e + 1) s) f l)))
+
+    pub bare-long : (k : ℕ) → LongOf (getD s e 0) k → k < length s - e → Bare s i (e + (1 + k))
+    bare-long k q l =
+        let v : ℕ = twos 8 (integer (take k (drop (e + 1) s))) in
+        let a : e + 1 + k ≡ e + (1 + k) = omega arith in
+        subst (Bare s i) a
+        (bare-row 1 v k (omega arith) (long-at (getD s e 0) k v (drop (e + 1) s) (q .0) (q .1) (q .2) (omega (arith, length-drop (e + 1) s)) refl))
+
+-- ---- stretches
+pub bare-of : (s : List ℕ) (i used : ℕ) (t₀ t : List ℕ) (e n : ℕ) → Stretched s i used t₀ t e n → Bare s i e
+bare-of s i used t₀ t e n c = record { items = c .items; from = c .from; to = c .to; said = c .said; none = c .none }
 
 module _ (s : List ℕ) (i used : ℕ) (t₀ : List ℕ) where
   pub stretched-none : i ≤ length s → used ≤ length t₀ → Stretched s i used t₀ t₀ i 0
@@ -68,11 +133,11 @@ module _ (s : List ℕ) (i used : ℕ) (t₀ : List ℕ) where
   module _ (t : List ℕ) (e n : ℕ) (c : Stretched s i used t₀ t e n) (h : e < length s) (free : used + 3 * n + 3 ≤ length t) where
     pub stretched-next : (k v u : ℕ) → u ≤ length s - (e + 1) → RowAt (getD s e 0) (drop (e + 1) s) k v u
         → (t′ : List ℕ) → t′ ≡ over (take (used + 3 * n) t ++ (k ∷ 0 ∷ v ∷ [])) t → Stretched s i used t₀ t′ (e + 1 + u) (n + 1)
-    unfolding next objectAt object
+    unfolding bare-row bare-object bare-of
     stretched-next k v u l r t′ w =
         let xs = c .items in
         let x : Items = one (r .leaf) in
-        let f : e - i + (1 + u) ≡ e + 1 + u - i = let q = c .from in omega arith in
+        let o = bare-row s i e (bare-of s i used t₀ t e n c) h k v u l r in
         let q1 = c .from in
         let q2 = c .rows-are in
         let q3 = c .count-is in
@@ -94,11 +159,7 @@ module _ (s : List ℕ) (i used : ℕ) (t₀ : List ℕ) where
           items = join xs x;
           from = omega arith;
           to = omega arith;
-          said = λ d.
-              c .said d
-              ∙ ap (onto xs (e - i)) (turn-at d s e h ∙ ap (λ y. next (object (λ a b. reads (suc d) (contents (drop (e + 1) s) a b)) y) (λ p. reads d (drop (e + 1 + p) s))) (r .head d))
-              ∙ onto-onto xs x (e - i) (1 + u) (reads d (drop (e + 1 + u) s))
-              ∙ ap (λ p. onto (join xs x) p (reads d (drop (e + 1 + u) s))) f;
+          said = o .said;
           rows-are = omega (arith, rows-join xs x);
           count-is = omega (arith, count-join xs x);
           none = omega (arith, words-join xs x);
@@ -107,10 +168,11 @@ module _ (s : List ℕ) (i used : ℕ) (t₀ : List ℕ) where
           room = omega arith;
         }
 
-    pub stretched-plain : getD s e 0 < 0xc0 → (t′ : List ℕ) → t′ ≡ over (take (used + 3 * n) t ++ (plainKind (getD s e 0) ∷ 0 ∷ getD s e 0 % 128 ∷ [])) t → Stretched s i used t₀ t′ (e + 1) (n + 1)
-    stretched-plain l t′ w =
+    pub stretched-ranged : (lo hi kind : ℕ) → Ranged lo hi kind → lo ≤ getD s e 0 → getD s e 0 ≤ hi
+        → (t′ : List ℕ) → t′ ≡ over (take (used + 3 * n) t ++ (kind ∷ 0 ∷ (getD s e 0 - lo) ∷ [])) t → Stretched s i used t₀ t′ (e + 1) (n + 1)
+    stretched-ranged lo hi kind r g l t′ w =
         subst (λ p. Stretched s i used t₀ t′ p (n + 1)) (add-zero (e + 1))
-        (stretched-next (plainKind (getD s e 0)) (getD s e 0 % 128) 0 zero-le (plain-at (getD s e 0) (drop (e + 1) s) l) t′ w)
+        (stretched-next kind (getD s e 0 - lo) 0 zero-le (r (getD s e 0) (drop (e + 1) s) g l) t′ w)
 
     pub stretched-late : 0xf8 ≤ getD s e 0 → getD s e 0 < 0xff → (k v : ℕ) → (k ≡ lateKind (getD s e 0)) × (v ≡ lateValue (getD s e 0))
         → (t′ : List ℕ) → t′ ≡ over (take (used + 3 * n) t ++ (k ∷ 0 ∷ v ∷ [])) t → Stretched s i used t₀ t′ (e + 1) (n + 1)
@@ -118,17 +180,85 @@ module _ (s : List ℕ) (i used : ℕ) (t₀ : List ℕ) where
         subst (λ p. Stretched s i used t₀ t′ p (n + 1)) (add-zero (e + 1))
         (stretched-next k v 0 zero-le (rw (q .0, q .1) (late-at (getD s e 0) (drop (e + 1) s) g l)) t′ w)
 
-    pub stretched-long : (u v : ℕ) → LongPast (getD s e 0) (length s - (e + 1)) u → u ≢ 0 → v ≡ twos 8 (integer (take u (take (length s - (e + 1)) (drop (e + 1) s))))
-        → (t′ : List ℕ) → t′ ≡ over (take (used + 3 * n) t ++ (1 ∷ 0 ∷ v ∷ [])) t → Stretched s i used t₀ t′ (e + 1 + u) (n + 1)
-    stretched-long u v l z ev t′ w =
-        let q = l (omega arith) in
-        stretched-next 1 v u (q .3) (long-at (getD s e 0) u v (drop (e + 1) s) (q .0) (q .1) (q .2) (rw (length-drop (e + 1) s) (q .3)) (rw (rest-part s (e + 1)) at ev)) t′ w
+    pub stretched-long : (b k v : ℕ) → LongOf b k → getD s e 0 ≡ b → k ≤ length s - (e + 1) → v ≡ twos 8 (integer (take k (take (length s - (e + 1)) (drop (e + 1) s))))
+        → (t′ : List ℕ) → t′ ≡ over (take (used + 3 * n) t ++ (1 ∷ 0 ∷ v ∷ [])) t → Stretched s i used t₀ t′ (e + 1 + k) (n + 1)
+    stretched-long b k v q eb l ev t′ w =
+        stretched-next 1 v k l
+        (rw eb (long-at b k v (drop (e + 1) s) (q .0) (q .1) (q .2) (rw (length-drop (e + 1) s) l) (rw (rest-part s (e + 1)) at ev))) t′ w
+
+-- the bytes of a range, none of them
+pub range-start : (s : List ℕ) (i used : ℕ) (t : List ℕ) → i ≤ length s → used ≤ length t → Stretched s i used t t (i + 0) 0
+range-start s i used t h g = subst (λ p. Stretched s i used t t p 0) (sym (add-zero i)) (stretched-none s i used t h g)
+
+-- j of them and one more
+pub ranged-more : (s : List ℕ) (i used : ℕ) (t₀ t : List ℕ) (j : ℕ) → Stretched s i used t₀ t (i + j) j → i + j < length s → used + 3 * j + 3 ≤ length t
+    → (lo hi kind : ℕ) → Ranged lo hi kind → lo ≤ getD s (i + j) 0 → getD s (i + j) 0 ≤ hi
+    → (t′ : List ℕ) → t′ ≡ over (take (used + 3 * j) t ++ (kind ∷ 0 ∷ (getD s (i + j) 0 - lo) ∷ [])) t → Stretched s i used t₀ t′ (i + (j + 1)) (j + 1)
+ranged-more s i used t₀ t j c h free lo hi kind r g l t′ w =
+    let e : i + j + 1 ≡ i + (j + 1) = omega arith in
+    subst (λ p. Stretched s i used t₀ t′ p (j + 1)) e (stretched-ranged s i used t₀ t (i + j) j c h free lo hi kind r g l t′ w)
+
+-- two stretches one after the other make one
+pub stretched-join : (s : List ℕ) (i used : ℕ) (t₀ t t′ : List ℕ) (e n f m : ℕ) → Stretched s i used t₀ t e n → Stretched s e (used + 3 * n) t t′ f m
+    → Stretched s i used t₀ t′ f (n + m)
+stretched-join s i used t₀ t t′ e n f m c x =
+    let xs = c .items in
+    let ys = x .items in
+    let q1 = c .from in
+    let q2 = c .rows-are in
+    let q3 = c .count-is in
+    let q4 = c .none in
+    let q5 = c .long in
+    let q6 = c .room in
+    let x1 = x .from in
+    let x2 = x .rows-are in
+    let x3 = x .count-is in
+    let x4 = x .none in
+    let x6 = x .room in
+    let k : e - i + (f - e) ≡ f - i = omega arith in
+    record {
+      items = join xs ys;
+      from = omega arith;
+      to = x .to;
+      said = λ d.
+          c .said d
+          ∙ ap (onto xs (e - i)) (x .said d)
+          ∙ onto-onto xs ys (e - i) (f - e) (reads d (drop f s))
+          ∙ ap (λ p. onto (join xs ys) p (reads d (drop f s))) k;
+      rows-are = omega (arith, rows-join xs ys);
+      count-is = omega (arith, count-join xs ys);
+      none = omega (arith, words-join xs ys);
+      table-is = λ base.
+          let a : used + 3 * n ≡ length (take used t₀ ++ rowWords base xs) = omega (arith, length-append (take used t₀) (rowWords base xs), length-take-le used t₀ (omega arith), row-length base xs) in
+          x .table-is (base + words xs)
+          ∙ grown (take used t₀ ++ rowWords base xs) (rowWords (base + words xs) ys) t₀ t (used + 3 * n) (c .table-is base) a
+          ∙ ap (λ y. over y t₀)
+          (append-assoc (take used t₀) (rowWords base xs) (rowWords (base + words xs) ys) ∙ ap (λ y. take used t₀ ++ y) (sym (row-words-join base xs ys)));
+      long = x .long ∙ c .long;
+      room = omega arith;
+    }
+
+pub stretched-stop : (s : List ℕ) (i used : ℕ) (t₀ t t′ : List ℕ) (e n f m : ℕ) → Stretched s i used t₀ t e n → Stretched s e (used + 3 * n) t t′ f m → f ≡ e
+    → Stretched s i used t₀ t′ e (n + m)
+stretched-stop s i used t₀ t t′ e n f m c x k = subst (λ p. Stretched s i used t₀ t′ p (n + m)) k (stretched-join s i used t₀ t t′ e n f m c x)
+
+-- ---- one object
+module _ (s : List ℕ) (i used : ℕ) (t t′ : List ℕ) (h : i < length s) (free : used + 3 ≤ length t) where
+  none : Stretched s i used t t i 0
+  none = stretched-none s i used t (omega arith) (omega arith)
+
+  row : (k v : ℕ) → t′ ≡ over (take used t ++ (k ∷ 0 ∷ v ∷ [])) t → t′ ≡ over (take (used + 3 * 0) t ++ (k ∷ 0 ∷ v ∷ [])) t
+  row k v w = let z : used + 3 * 0 ≡ used = omega arith in rw z w
+
+  pub one-integer : (b k v : ℕ) → LongOf b k → b ≡ getD s i 0 → k ≤ length s - (i + 1) → v ≡ twos 8 (integer (take k (take (length s - (i + 1)) (drop (i + 1) s))))
+      → t′ ≡ over (take used t ++ (1 ∷ 0 ∷ v ∷ [])) t → Stretched s i used t t′ (i + 1 + k) 1
+  one-integer b k v q eb l ev w = stretched-long s i used t t i 0 none h (omega arith) b k v q (sym eb) l ev t′ (row 1 v w)
+
+  pub one-late : 0xf8 ≤ getD s i 0 → getD s i 0 < 0xff → t′ ≡ over (take used t ++ (lateKind (getD s i 0) ∷ 0 ∷ lateValue (getD s i 0) ∷ [])) t
+      → Stretched s i used t t′ (i + 1) 1
+  one-late g l w = stretched-late s i used t t i 0 none h (omega arith) g l (lateKind (getD s i 0)) (lateValue (getD s i 0)) (refl, refl) t′ (row (lateKind (getD s i 0)) (lateValue (getD s i 0)) w)
 
 -- ---- padding
-gap-object : (d b : ℕ) (s : List ℕ) → 0xff ≤ b → b ≤ 0xff → objectAt d b s ≡ got end 0
-unfolding objectAt object
-gap-object d b s g h = ap (object (λ a m. reads (suc d) (contents s a m))) (gap-head d b s (omega arith))
-
 -- n bytes of padding from e on
 gaps : (n e : ℕ) (s : List ℕ) → e + n ≤ length s → Between 0xff 0xff e (e + n) s → (d : ℕ) → reads d (drop e s) ≡ onto end n (reads d (drop (e + n) s))
 unfolding next

@@ -14,7 +14,8 @@ use Rattle.format.proofs.TableLaws.{row-length}
 use Rattle.fill.specs.declared.rows.Filled.{Filled}
 use Rattle.fill.specs.Walks.{RunFits, RunFilled, RunRoom, RunStored}
 use Rattle.fill.specs.Whole.{Roomy, RowsPut, WordsPut, laidOut}
-use Rattle.fill.proofs.Over.{over-self, over-length, part-length, grown, fronted, lent}
+use Rattle.fill.proofs.Over.{none-in, over-self, over-length, part-length, grown, fronted, lent}
+use Rattle.fill.proofs.RowLaws.{count-rows}
 
 -- the items that an accepted message says, and what is known of them
 record Seen (o : Outcome) (r w len : ℕ) : Type 0 where
@@ -31,10 +32,6 @@ unfolding Roomy wordsNeeded
 seen (refused f) r w len q = absurd q
 seen (says xs) r w len q =
     record { xs = xs; said = refl; rows-are = q .0; words-are = q .1; few-rows = q .2; few-words = q .3; room = q .4 }
-
-none-in : (l : List ℕ) → length l ≡ 0 → l ≡ []
-none-in [] e = refl
-none-in (x ∷ l) e = absurd (omega arith)
 
 module _ (m : List ℕ) (r w : ℕ) (t : List ℕ) (f : Roomy (outcome m) r w (length t)) where
   s : Seen (outcome m) r w (length t)
@@ -58,6 +55,14 @@ module _ (m : List ℕ) (r w : ℕ) (t : List ℕ) (f : Roomy (outcome m) r w (l
       let i : g .items ≡ s .xs = cc in
       let l = rw i at (g .laid) in
       rw (s .said) (l .count-is, lent 4 (rowWords 0 (s .xs)) t ys (rows-fit .0) (l .table-is))
+
+  pub no-rows : r ≡ 0 → RowsPut (outcome m) t t 0
+  unfolding RowsPut
+  no-rows z =
+      let x = s .xs in
+      let q : rows x ≡ 0 = sym (s .rows-are) ∙ z in
+      let d : rowWords 0 x ≡ [] = none-in (rowWords 0 x) (omega (arith, row-length 0 x)) in
+      rw (s .said) (omega (arith, count-rows x), sym (ap (λ l. over (take 4 t ++ l) t) d ∙ ap (λ l. over l t) (append-nil (take 4 t)) ∙ over-self 4 t))
 
   -- ---- the data words
   pub words-fit : (4 + 3 * r ≤ length t) × RunRoom 0 m (length (take (length t - (4 + 3 * r)) (drop (4 + 3 * r) t)))

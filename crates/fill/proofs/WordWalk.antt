@@ -1,32 +1,38 @@
 -- The walk of the data words: one turn of its loop, and one object of it. Assumes nothing.
-use Prim.Native.Nat.{ℕ, _+_, _-_, _*_, _%_, _≤_, _<_, zero-le}
+use Prim.Native.Nat.{ℕ, _+_, _-_, _*_, _≤_, _<_, zero-le}
 use native.Mathlib.Omega.{arith}
-use native.Mathlib.Nat.{add-zero}
-use mathlib.Core.Path.{_≡_, refl, sym, ap, ap₂, _∙_, subst}
+use mathlib.Core.Path.{_≡_, refl, sym, ap, ap₂, _∙_}
+use mathlib.Core.Logic.{_≢_}
 use mathlib.Core.List.{List, [], _++_, append-nil}
 use lib.ListN.{length, take, drop, getD}
-use types.Run.{OneOf, hit}
+use types.Run.{OneOf}
 use denote.Enum.Declared.{tagOf}
-use Rattle.format.specs.Items.{Items, end, join}
+use Rattle.format.specs.Items.{Items, end, group, join}
 use Rattle.format.specs.Tables.{dataWords}
-use Rattle.format.specs.Objects.{headOf}
-use Rattle.format.specs.Messages.{says, got}
+use Rattle.format.specs.Objects.{characters, headOf}
+use Rattle.format.specs.Messages.{says, got, onto, reads}
 use Rattle.format.specs.Answers.{over}
+use Rattle.format.proofs.Choices.{ifEq-no}
 use Rattle.format.proofs.Counts.{words, words-join, data-join}
+use Rattle.format.proofs.Parts.{middle-part}
+use Rattle.format.proofs.Steps.{objectAt}
 use Rattle.wire.proofs.head.Head.{the-type}
 use Rattle.wire.specs.declared.head.Head.{Head}
-use Rattle.wire.specs.declared.head.Head.the-variants.{Gap, Row, Open}
+use Rattle.wire.specs.declared.head.Head.the-variants.{Open}
 use Rattle.wire.specs.declared.head.Wrap.{Wrap}
-use Rattle.wire.specs.Heads.{HeadIs}
+use Rattle.wire.specs.Heads.{HeadIs, ShortAt}
 use Rattle.fill.specs.declared.plain.Stored.{Stored}
 use Rattle.fill.specs.Copies.{again}
-use Rattle.fill.specs.Plain.{plainKind, plainWords, plainPlaced, plainStored}
+use Rattle.fill.specs.Plain.{plainWords, plainStored}
 use Rattle.fill.specs.Containers.{copiesOf, closed}
+use Rattle.fill.specs.Shorts.{insideOf, groupOf}
+use Rattle.fill.specs.Stretch.{Bare}
 use Rattle.fill.specs.Walks.{RunRoom, ObjectRoom, Kept, RunStored, ObjectStored}
-use Rattle.fill.proofs.Over.{over-none, over-self, over-length, part-length, grown, lent}
-use Rattle.fill.proofs.Turns.{Passed, passed-none, passed-all, Ahead, ahead}
-use Rattle.fill.proofs.PlainLaws.{Shown, plain-tags, object-shown, plain-head, gap-head}
+use Rattle.fill.proofs.Over.{none-in, over-none, over-length, part-length, grown, lent}
+use Rattle.fill.proofs.Turns.{onto-onto, Passed, passed-none, passed-all, Ahead, ahead}
+use Rattle.fill.proofs.PlainLaws.{chars-words, Shown, plain-tags, object-shown}
 use Rattle.fill.proofs.ContainerLaws.{Opened, opened, at-least, closed-none, closed-words, closed-kept}
+use Rattle.fill.proofs.ShortLaws.{text-string, Inside, short-inside}
 
 -- ---- one object
 module _ (d b : ℕ) (s t : List ℕ) (f : ObjectRoom d b s (length t)) where
@@ -97,6 +103,54 @@ module _ (d b : ℕ) (s t : List ℕ) (f : ObjectRoom d b s (length t)) where
                 kept = closed-kept w (inside .xs) t t₁ t₂ k m ek p kept q;
               }
 
+  -- a container or a string whose size is the one byte n
+  module _ (n : ℕ) (g : ShortAt d b s n) where
+    within : Inside d b s n (f .items) (f .past)
+    within = short-inside d b s n (f .items) (f .past) g (f .said)
+
+    object-is : objectAt d b s ≡ got (group (groupOf b) (within .xs) end) (1 + n)
+    object-is = f .said ∙ ap₂ got (within .closes) (within .past)
+
+    pub string-stored : b ≡ 0xc6 → ObjectStored d b s t t (record { words = 0; past = 1 + n })
+    unfolding dataWords
+    string-stored q =
+        let c : List ℕ = take n (drop 1 s) in
+        let z : says (within .xs) ≡ says (characters c) = sym (within .said) ∙ text-string b c q d in
+        let e : within .xs ≡ characters c = cc in
+        let k : dataWords (within .xs) ++ [] ≡ [] = append-nil (dataWords (within .xs)) ∙ ap dataWords e ∙ chars-words c in
+        record {
+          items = group (groupOf b) (within .xs) end;
+          said = object-is;
+          kept = record { words-are = sym (ap length k); table-is = sym (ap (λ l. over l t) k ∙ over-none t) };
+        }
+
+    module _ (q : b ≢ 0xc6) where
+      contents-said : reads (d + 1) (take (1 + n - 1) (drop 1 s)) ≡ says (within .xs)
+      unfolding insideOf
+      contents-said =
+          let c : List ℕ = take n (drop 1 s) in
+          ap (reads (d + 1)) (middle-part s 1 n) ∙ sym (ifEq-no b 0xc6 (says (characters c)) (reads (d + 1) c) q) ∙ within .said
+
+      same-words : words (within .xs) ≡ words (f .items)
+      unfolding dataWords
+      same-words = sym (ap words (within .closes) ∙ ap length (append-nil (dataWords (within .xs))))
+
+      pub short-room : RunRoom (d + 1) (take (1 + n - 1) (drop 1 s)) (length t)
+      short-room = record { items = within .xs; said = contents-said; room = rw same-words (f .room) }
+
+      pub short-stored : (m : ℕ) (t₁ : List ℕ) → RunStored (d + 1) (take (1 + n - 1) (drop 1 s)) t t₁ m → ObjectStored d b s t t₁ (record { words = m; past = 1 + n })
+      unfolding dataWords
+      short-stored m t₁ k =
+          let z : says (k .items) ≡ says (within .xs) = sym (k .said) ∙ contents-said in
+          let e : k .items ≡ within .xs = cc in
+          let y : Kept (within .xs) t t₁ m = rw e at (k .kept) in
+          let a : dataWords (within .xs) ≡ dataWords (within .xs) ++ [] = sym (append-nil (dataWords (within .xs))) in
+          record {
+            items = group (groupOf b) (within .xs) end;
+            said = object-is;
+            kept = record { words-are = y .words-are ∙ ap length a; table-is = y .table-is ∙ ap (λ l. over l t) a };
+          }
+
 -- ---- the loop: the data words of xs stand there, before i
 pub record WordsInv (d : ℕ) (s t₀ t : List ℕ) (i w : ℕ) : Type 0 where
   pub all : Items
@@ -125,6 +179,36 @@ words-start d s t f =
 module _ (d : ℕ) (s t₀ t : List ℕ) (i w : ℕ) (v : WordsInv d s t₀ t i w) where
   pub words-end : length s ≤ i → RunStored d s t₀ t w
   words-end h = record { items = v .xs; said = passed-all d s (v .all) (v .xs) i h (v .passed); kept = v .kept }
+
+  -- past bytes without data words
+  pub bare-turn : (e : ℕ) → Bare s i e → WordsInv d s t₀ t e w
+  bare-turn e x =
+      let xs = v .xs in
+      let ys = x .items in
+      let x1 = x .from in
+      let x2 = x .none in
+      let l1 = v .kept .words-are in
+      let j1 = words-join xs ys in
+      let k : i + (e - i) ≡ e = omega arith in
+      let n : dataWords ys ≡ [] = none-in (dataWords ys) (x .none) in
+      let p = v .passed in
+      record {
+        all = v .all;
+        xs = join xs ys;
+        fits = v .fits;
+        passed = record {
+          said = p .said;
+          so-far = p .so-far ∙ ap (onto xs i) (x .said d) ∙ onto-onto xs ys i (e - i) (reads d (drop e s)) ∙ ap (λ m. onto (join xs ys) m (reads d (drop e s))) k;
+          at = x .to;
+        };
+        kept = record {
+          words-are = omega arith;
+          table-is = v .kept .table-is ∙ ap (λ l. over l t₀) (sym (data-join xs ys ∙ ap (λ l. dataWords xs ++ l) n ∙ append-nil (dataWords xs)));
+        };
+        at = x .to;
+        room = v .room;
+        long = v .long;
+      }
 
   module _ (b : ℕ) (h : i < length s) (e : b ≡ getD s i 0) where
     -- the bytes and the part of the table that the code lends on
@@ -181,23 +265,3 @@ module _ (d : ℕ) (s t₀ t : List ℕ) (i w : ℕ) (v : WordsInv d s t₀ t i 
             room = omega arith;
             long = ap length tb ∙ over-length (dataWords (join xs ys)) t₀ (omega arith);
           }
-
-    -- ---- one-byte objects have no data words
-    passed-by : (h : Head) → OneOf plain-tags (tagOf the-type h) → HeadIs S h (headOf d b S) → plainWords S h ≡ [] → plainStored h ≡ record { words = 0; past = 0 } → WordsInv d s t₀ t (i + 1) w
-    passed-by x k q n z =
-        let l = v .long in
-        let m = v .room in
-        let g = plain-stored d b S P here-room x k q (record { words = 0; past = 0 }) P (sym z) (sym (ap (λ l. over l P) n ∙ over-none P)) in
-        let e : take w t ++ (P ++ drop (length t - w) (drop w t)) ≡ t =
-        lent w [] t P (omega arith) (sym (over-none P)) ∙ ap (λ l. over l t) (append-nil (take w t)) ∙ over-self w t in
-        let y = words-more (record { words = 0; past = 0 }) P g in
-        subst (λ m. WordsInv d s t₀ t m w) (add-zero (i + 1))
-        (subst (λ m. WordsInv d s t₀ t (i + 1 + 0) m) (add-zero w) (subst (λ u. WordsInv d s t₀ u (i + 1 + 0) (w + 0)) e y))
-
-    pub gap-turn : b ≡ 0xff → WordsInv d s t₀ t (i + 1) w
-    unfolding plainWords plainStored plainPlaced
-    gap-turn q = passed-by Gap (hit plain-tags 1 tt) (gap-head d b S q) refl refl
-
-    pub plain-turn : b < 0xc0 → WordsInv d s t₀ t (i + 1) w
-    unfolding plainWords plainStored plainPlaced
-    plain-turn q = passed-by (Row (plainKind b) (b % 128) 0) (hit plain-tags 2 tt) (plain-head d b S q) refl refl

@@ -4,3 +4,4 @@ pub mod Containers
 pub mod Walks
 pub mod Whole
 pub mod Stretch
+pub mod Shorts

@@ -3,7 +3,6 @@ use Prim.Native.Nat.{ℕ, _+_, _%_, _≤_}
 use mathlib.Core.Path.{_≡_}
 use mathlib.Core.List.{List, [], _∷_}
 use lib.ListN.{length, take, drop}
-use Rattle.format.specs.Choice.{ifLt}
 use Rattle.format.specs.Bits.{packed, bytesFor, wordsFor}
 use Rattle.wire.specs.declared.head.Head.{Head}
 use Rattle.wire.specs.declared.head.Head.the-variants.{Stop, Gap, Row, Short, Long, Text, Open}
@@ -21,11 +20,6 @@ Apt s (Short n w u) = n ≤ 63
 Apt s (Long a n u) = (a + bytesFor n ≡ u) × (u ≤ length s)
 Apt s (Text a n) = a + n ≤ length s
 Apt s (Open w a n) = Unit {0}
-
--- the kind of a one-byte item
-unfoldable pub plainKind : ℕ → ℕ
-unfolding ifLt
-plainKind b = ifLt b 0x80 3 1
 
 -- a CHAR row for each byte of a string
 unfoldable pub charRows : List ℕ → List ℕ

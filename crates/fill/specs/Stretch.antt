@@ -7,6 +7,24 @@ use Rattle.format.specs.Items.{Items}
 use Rattle.format.specs.Messages.{onto, reads}
 use Rattle.format.specs.Tables.{rows, count, dataWords, rowWords}
 use Rattle.format.specs.Answers.{over}
+use Rattle.format.specs.Objects.{following}
+use Rattle.wire.specs.Heads.{RowAt}
+
+-- each of the bytes lo to hi is one item, whose row has the kind and then 0 and the place within the range
+abbrev pub Ranged : ℕ → ℕ → ℕ → Type 0
+Ranged lo hi kind = (b : ℕ) (s : List ℕ) → lo ≤ b → b ≤ hi → RowAt b s kind (b - lo) 0
+
+-- b is an LINTEGER's type-byte that asks for k bytes
+abbrev pub LongOf : ℕ → ℕ → Type 0
+LongOf b k = (0xe0 ≤ b) × (b ≤ 0xe7) × (k ≡ following b)
+
+-- From i to e the bytes say items without data words, however deep they stand.
+pub record Bare (s : List ℕ) (i e : ℕ) : Type 0 where
+  pub items : Items
+  pub from : i ≤ e
+  pub to : e ≤ length s
+  pub said : (d : ℕ) → reads d (drop i s) ≡ onto items (e - i) (reads d (drop e s))
+  pub none : length (dataWords items) ≡ 0
 
 -- From i to e the bytes say items of n rows and no data words, however deep they stand; behind `used` words of the table, which
 -- was t₀ and is t, their rows stand.

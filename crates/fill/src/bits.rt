@@ -1,16 +1,12 @@
 // The data words of a BITS.
 ghost use mathlib.Core.Path.{_≡_};
-ghost use Prim.Native.Nat.{_+_, _*_, _≤_, _<_, min};
+ghost use Prim.Native.Nat.{_+_, _*_, _≤_, _<_};
 ghost use lib.ListN.{length, take};
 ghost use Rattle.format.specs.Bits.{spread, adjusted, packed, bytesFor, wordsFor};
 ghost use Rattle.format.specs.Answers.{over};
+use super::least::least;
 use wire::integer::number;
-
-fn at_most_64(n: usize) -> usize
-    ensures { λ r. ⌜ r ≡ min n 64 ⌝ }
-{
-    if n < 64 { n } else { 64 }
-}
+use wire::integer::word_at;
 
 // The first n bits of the bytes c, left-adjusted in a word whose other bits are 0.
 fn word_of(c: &[u8], n: usize) -> u64
@@ -18,7 +14,7 @@ fn word_of(c: &[u8], n: usize) -> u64
     ensures { λ r. ⌜ r ≡ adjusted 64 (take n (spread 8 (now (c .entry)))) ⌝ }
 {
     if n == 64 {
-        return number(c, 8);
+        return word_at(c, 0);
     }
     let k = (n + 7) / 8;
     (number(c, k) >> (8 * k - n)) << (64 - n)
@@ -33,7 +29,7 @@ pub fn put_bits(c: &[u8], n: usize, table: &mut [u64])
     let mut j: usize = 0;
     while j < words {
         let from = 8 * j;
-        table[j] = word_of(&c[from..], at_most_64(n - 64 * j));
+        table[j] = word_of(&c[from..], least(n - 64 * j, 64));
         j += 1;
     }
 }

@@ -1,10 +1,12 @@
-// A repeat's later copies: one row without data words is stored again and again, other rows are copied from the copy before.
+// A repeat's later copies: one row without data words is stored again and again, of other rows all the copies so far are copied.
 ghost use mathlib.Core.Path.{_≡_};
-ghost use Prim.Native.Nat.{_*_, _≤_, _<_};
+ghost use Prim.Native.Nat.{_+_, _*_, _%_, _≤_, _<_};
+ghost use mathlib.Core.List.{_++_};
 ghost use lib.ListN.{length, take};
 ghost use Rattle.format.specs.Answers.{over};
 ghost use Rattle.fill.specs.Containers.{copiesOf};
-ghost use Rattle.fill.specs.Copies.{shift, copies, again};
+ghost use Rattle.fill.specs.Copies.{shift, moved, copies, again};
+use super::least::least;
 use wire::head::Wrap;
 
 // How often a container's elements stand there.
@@ -45,29 +47,41 @@ fn copy_row(table: &mut [u64], k: usize)
     }
 }
 
-// The first rows of the table stand there k times, each copy made from the one before, its data `words` further on.
+// The first n words of the table, which are whole rows, stand again from `to` on, their data `words` further on.
+fn copy_some(table: &mut [u64], to: usize, n: usize, words: usize)
+    requires { ⌜ (n % 3 ≡ 0) × (n ≤ to) × (to + n ≤ length (now table)) ⌝ }
+    ensures { λ r. ⌜ now (table .exit) ≡ over (take to (now (table .entry)) ++ moved words (take n (now (table .entry)))) (now (table .entry)) ⌝ }
+{
+    let mut i: usize = 0;
+    while i < n {
+        let kind = table[i];
+        let a = table[i + 1];
+        let b = table[i + 2];
+        let at = to + i;
+        table[at] = kind;
+        table[at + 1] = a;
+        table[at + 2] = shifted(kind, b, words);
+        i += 3;
+    }
+}
+
+// The first rows of the table stand there k times, each copy's data `words` on from those of the copy before. Each round copies
+// all the copies that are there, or as many as are still due.
 fn copy_moved(table: &mut [u64], rows: usize, words: usize, k: usize)
-    requires { ⌜ (0 < k) × (3 * (k * rows) ≤ length (now table)) ⌝ }
+    requires { ⌜ (0 < k) × (3 * (k * rows) ≤ length (now table)) × (k * words ≤ 16384) ⌝ }
     ensures { λ r. ⌜ now (table .exit) ≡ over (copies words k (take (3 * rows) (now (table .entry)))) (now (table .entry)) ⌝ }
 {
-    let total = k * rows;
-    let mut j = rows;
-    while j < total {
-        let from = 3 * (j - rows);
-        let to = 3 * j;
-        let kind = table[from];
-        let a = table[from + 1];
-        let b = table[from + 2];
-        table[to] = kind;
-        table[to + 1] = a;
-        table[to + 2] = shifted(kind, b, words);
-        j += 1;
+    let mut done: usize = 1;
+    while done < k {
+        let more = least(done, k - done);
+        copy_some(table, 3 * (done * rows), 3 * (more * rows), done * words);
+        done += more;
     }
 }
 
 // The first rows of the table stand there k times, each copy's data `words` on from those of the copy before.
 pub fn copy_rows(table: &mut [u64], rows: usize, words: usize, k: usize)
-    requires { ⌜ (0 < k) × (3 * (k * rows) ≤ length (now table)) ⌝ }
+    requires { ⌜ (0 < k) × (3 * (k * rows) ≤ length (now table)) × (k * words ≤ 16384) ⌝ }
     ensures { λ r. ⌜ now (table .exit) ≡ over (copies words k (take (3 * rows) (now (table .entry)))) (now (table .entry)) ⌝ }
 {
     if rows == 1 {
@@ -79,16 +93,27 @@ pub fn copy_rows(table: &mut [u64], rows: usize, words: usize, k: usize)
     copy_moved(table, rows, words, k);
 }
 
-// The first n words of the table stand there k times.
+// The first n words of the table stand again from `to` on.
+fn copy_plain(table: &mut [u64], to: usize, n: usize)
+    requires { ⌜ (n ≤ to) × (to + n ≤ length (now table)) ⌝ }
+    ensures { λ r. ⌜ now (table .exit) ≡ over (take to (now (table .entry)) ++ take n (now (table .entry))) (now (table .entry)) ⌝ }
+{
+    let mut i: usize = 0;
+    while i < n {
+        table[to + i] = table[i];
+        i += 1;
+    }
+}
+
+// The first n words of the table stand there k times; each round copies as above.
 pub fn copy_words(table: &mut [u64], n: usize, k: usize)
     requires { ⌜ (0 < k) × (k * n ≤ length (now table)) ⌝ }
     ensures { λ r. ⌜ now (table .exit) ≡ over (again k (take n (now (table .entry)))) (now (table .entry)) ⌝ }
 {
-    let total = k * n;
-    let mut j = n;
-    while j < total {
-        let from = j - n;
-        table[j] = table[from];
-        j += 1;
+    let mut done: usize = 1;
+    while done < k {
+        let more = least(done, k - done);
+        copy_plain(table, done * n, more * n);
+        done += more;
     }
 }

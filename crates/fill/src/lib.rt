@@ -9,6 +9,7 @@ ghost use Rattle.fill.specs.Whole.{Roomy, RowsPut, WordsPut, laidOut};
 
 mod bits;
 mod copies;
+mod least;
 mod plain;
 mod rows;
 mod stretch;
@@ -22,6 +23,9 @@ fn put_rows(message: &[u8], table: &mut [u64], rows: usize, words: usize) -> usi
     requires { ⌜ (length (now message) ≤ 65536) × Roomy (outcome (now message)) rows words (length (now table)) ⌝ }
     ensures { λ r. ⌜ RowsPut (outcome (now (message .entry))) (now (table .entry)) (now (table .exit)) r ⌝ }
 {
+    if rows == 0 {
+        return 0;
+    }
     let f = fill_run(0, message, 0, &mut table[4..]);
     f.count
 }

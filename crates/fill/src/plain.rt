@@ -32,7 +32,7 @@ pub fn put_row(table: &mut [u64], kind: u64, a: u64, b: u64)
 }
 
 // A CHAR row for each byte.
-fn put_characters(c: &[u8], table: &mut [u64])
+pub fn put_characters(c: &[u8], table: &mut [u64])
     requires { ⌜ 3 * length (now c) ≤ length (now table) ⌝ }
     ensures { λ r. ⌜ now (table .exit) ≡ over (charRows (now (c .entry))) (now (table .entry)) ⌝ }
 {

@@ -1,20 +1,25 @@
-// The walk of the rows: an object and a run of objects call each other, and the bytes left fall.
+// The walk of the rows: an object, a short container and a run of objects call each other, and the bytes left fall.
 ghost use mathlib.Core.Path.{_≡_};
 ghost use Prim.Native.Nat.{_+_, _*_, _≤_, _<_};
 ghost use lib.ListN.{length};
 ghost use Rattle.format.specs.Answers.{over};
+ghost use Rattle.format.specs.Tables.{rowKind};
 ghost use mathlib.Core.List.{_∷_, []};
 ghost use Rattle.fill.specs.Containers.{ownWords, closedGroup, Closable, closedRows, closedPlaced};
+ghost use Rattle.fill.specs.Shorts.{groupOf, TextIs, ShortFits, ShortFilled};
 ghost use Rattle.fill.specs.Walks.{RunFits, ObjectFits, RunFilled, ObjectFilled};
 use super::copies::copies_of;
 use super::copies::copy_rows;
 use super::plain::Placed;
+use super::plain::put_characters;
 use super::plain::put_plain;
 use super::plain::put_row;
 use super::stretch::put_stretch;
 use wire::head::Head;
 use wire::head::Wrap;
 use wire::head::head_of;
+use wire::short::short_size;
+use wire::span::until;
 
 // What the walk of a run wrote.
 pub struct Filled {
@@ -92,7 +97,57 @@ fn fill_object(depth: usize, b: u8, s: &[u8], base: usize, table: &mut [u64]) ->
     }
 }
 
-// The rows of a run of objects; `base` data words come before it.
+// The kind of the row of a container or a string by its type-byte.
+fn kind_of(b: u8) -> u64
+    ensures { λ r. ⌜ r ≡ rowKind (groupOf b) ⌝ }
+{
+    if b == 0xc6 {
+        return 7;
+    }
+    if b == 0xc2 {
+        return 7;
+    }
+    if b == 0xc5 {
+        return 7;
+    }
+    8
+}
+
+// Whether all that such an object has is characters; c are its contents.
+fn is_text(b: u8, c: &[u8]) -> bool
+    ensures { λ r. ⌜ TextIs b (now (c .entry)) r ⌝ }
+{
+    if b == 0xc6 {
+        return true;
+    }
+    until(c, 0, 0, 0x7f) == c.len()
+}
+
+// The rows of a container or a string whose size is one byte; c are its contents.
+fn fill_short(depth: usize, b: u8, c: &[u8], base: usize, table: &mut [u64]) -> Filled
+    requires { ⌜ (depth + length (now c) < 65536) × ShortFits depth b (now c) base (length (now table)) ⌝ }
+    ensures { λ r. ⌜ ShortFilled depth b (now (c .entry)) base (now (table .entry)) (now (table .exit)) r ⌝ }
+{
+    if is_text(b, c) {
+        let n = c.len();
+        put_characters(c, &mut table[3..]);
+        put_row(table, kind_of(b), n as u64, n as u64);
+        return Filled {
+            rows: n + 1,
+            count: 1,
+            words: 0,
+        };
+    }
+    let f = fill_run(depth + 1, c, base, &mut table[3..]);
+    put_row(table, kind_of(b), f.count as u64, f.rows as u64);
+    Filled {
+        rows: f.rows + 1,
+        count: 1,
+        words: f.words,
+    }
+}
+
+// The rows of a run of objects; `base` data words come before it. Short containers are tried first: they come one after another.
 pub fn fill_run(depth: usize, s: &[u8], base: usize, table: &mut [u64]) -> Filled
     requires { ⌜ (depth + length (now s) ≤ 65536) × RunFits depth (now s) base (length (now table)) ⌝ }
     ensures { λ r. ⌜ RunFilled depth (now (s .entry)) base (now (table .entry)) (now (table .exit)) r ⌝ }
@@ -102,6 +157,18 @@ pub fn fill_run(depth: usize, s: &[u8], base: usize, table: &mut [u64]) -> Fille
     let mut count: usize = 0;
     let mut words: usize = 0;
     while i < s.len() {
+        let n = short_size(depth, s[i], &s[i + 1..]);
+        if n > 0 {
+            let from = i + 2;
+            let end = from + n;
+            let used = 3 * rows;
+            let f = fill_short(depth, s[i], &s[from..end], base + words, &mut table[used..]);
+            rows += f.rows;
+            count += 1;
+            words += f.words;
+            i = end;
+            continue;
+        }
         let l = put_stretch(s, i, table, 3 * rows);
         i = l.upto;
         rows += l.rows;

@@ -1,14 +1,14 @@
 // Stretches: the rows of many small objects, laid out in a tight loop.
 ghost use mathlib.Core.Path.{_≡_};
-ghost use Prim.Native.Nat.{_+_, _*_, _≤_};
+ghost use Prim.Native.Nat.{_+_, _*_, _≤_, _<_};
 ghost use mathlib.Core.List.{_∷_, [], _++_};
-ghost use lib.ListN.{length, take};
+ghost use lib.ListN.{length, take, getD};
 ghost use Rattle.format.specs.Answers.{over};
 ghost use Rattle.wire.specs.Heads.{lateKind, lateValue};
-ghost use Rattle.fill.specs.Plain.{plainKind};
-ghost use Rattle.fill.specs.Stretch.{Stretched};
+ghost use Rattle.fill.specs.Stretch.{Ranged, LongOf, Stretched};
+use super::least::least;
+use wire::integer::following_of;
 use wire::integer::integer_of;
-use wire::integer::long_past;
 use wire::late::late_row;
 use wire::padding::padding_end;
 
@@ -16,13 +16,6 @@ use wire::padding::padding_end;
 pub struct Stretch {
     pub upto: usize,
     pub rows: usize,
-}
-
-// The kind of a one-byte item: CHAR below 80, and from there on INT.
-fn plain_kind(b: u8) -> u64
-    ensures { λ r. ⌜ r ≡ plainKind b ⌝ }
-{
-    if b < 0x80 { 3 } else { 1 }
 }
 
 // A row whose second word is 0, behind `at` words of the table.
@@ -44,6 +37,113 @@ fn put_late(table: &mut [u64], at: usize, b: u8)
     put_at(table, at, r.kind, r.value);
 }
 
+// A row of the kind for each of the bytes lo to hi from i on, as many as there are and as the table has room for behind `used`
+// words.
+fn put_range(s: &[u8], i: usize, table: &mut [u64], used: usize, lo: u8, hi: u8, kind: u64) -> usize
+    requires { ⌜ (i ≤ length (now s)) × (used ≤ length (now table)) × Ranged lo hi kind ⌝ }
+    ensures { λ r. ⌜ Stretched (now (s .entry)) i used (now (table .entry)) (now (table .exit)) (i + r) r ⌝ }
+{
+    let most = least(s.len() - i, (table.len() - used) / 3);
+    let mut j: usize = 0;
+    while j < most {
+        let b = s[i + j];
+        if b < lo {
+            return j;
+        }
+        if b > hi {
+            return j;
+        }
+        put_at(table, used + 3 * j, kind, (b - lo) as u64);
+        j += 1;
+    }
+    j
+}
+
+// The rows of the integers from i on that all have the type-byte b and k bytes behind it: where the next one starts does not
+// depend on what is read.
+fn put_same(s: &[u8], i: usize, table: &mut [u64], used: usize, b: u8, k: usize) -> Stretch
+    requires { ⌜ (i ≤ length (now s)) × (used ≤ length (now table)) × LongOf b k ⌝ }
+    ensures { λ r. ⌜ Stretched (now (s .entry)) i used (now (table .entry)) (now (table .exit)) (r .upto) (r .rows) ⌝ }
+{
+    let room = (table.len() - used) / 3;
+    let mut upto = i;
+    let mut rows: usize = 0;
+    while rows < room {
+        if s.len() - upto <= k {
+            return Stretch { upto, rows };
+        }
+        if s[upto] != b {
+            return Stretch { upto, rows };
+        }
+        let behind = upto + 1;
+        put_at(table, used + 3 * rows, 1, integer_of(&s[behind..], k));
+        upto = behind + k;
+        rows += 1;
+    }
+    Stretch { upto, rows }
+}
+
+// The rows of the integers from i on, where the type-byte of the first is b: one, or all of that type-byte where many may come.
+fn put_integers(s: &[u8], i: usize, table: &mut [u64], used: usize, b: u8) -> Stretch
+    requires { ⌜ (i < length (now s)) × (used + 3 ≤ length (now table)) × (b ≡ getD (now s) i 0) × (0xe0 ≤ b) × (b ≤ 0xe7) ⌝ }
+    ensures { λ r. ⌜ Stretched (now (s .entry)) i used (now (table .entry)) (now (table .exit)) (r .upto) (r .rows) ⌝ }
+{
+    let behind = i + 1;
+    let left = s.len() - behind;
+    let k = following_of(b);
+    if left >= 64 {
+        return put_same(s, i, table, used, b, k);
+    }
+    if left < k {
+        return Stretch { upto: i, rows: 0 };
+    }
+    put_at(table, used, 1, integer_of(&s[behind..], k));
+    Stretch {
+        upto: behind + k,
+        rows: 1,
+    }
+}
+
+// The rows of the objects of one kind from i on, or padding; nothing where another object stands there, or an integer cut short.
+fn put_kind(s: &[u8], i: usize, table: &mut [u64], used: usize) -> Stretch
+    requires { ⌜ (i < length (now s)) × (used + 3 ≤ length (now table)) ⌝ }
+    ensures { λ r. ⌜ Stretched (now (s .entry)) i used (now (table .entry)) (now (table .exit)) (r .upto) (r .rows) ⌝ }
+{
+    let b = s[i];
+    if b < 0x80 {
+        let n = put_range(s, i, table, used, 0, 0x7f, 3);
+        return Stretch {
+            upto: i + n,
+            rows: n,
+        };
+    }
+    if b < 0xc0 {
+        let n = put_range(s, i, table, used, 0x80, 0xbf, 1);
+        return Stretch {
+            upto: i + n,
+            rows: n,
+        };
+    }
+    if b < 0xe0 {
+        return Stretch { upto: i, rows: 0 };
+    }
+    if b < 0xe8 {
+        return put_integers(s, i, table, used, b);
+    }
+    if b < 0xf8 {
+        return Stretch { upto: i, rows: 0 };
+    }
+    if b == 0xff {
+        let upto = padding_end(s, i + 1);
+        return Stretch { upto, rows: 0 };
+    }
+    put_late(table, used, b);
+    Stretch {
+        upto: i + 1,
+        rows: 1,
+    }
+}
+
 // The rows of the one-byte items and the integers from i on, padding among them, behind `used` words of the table. It ends at
 // another object, at an integer that is cut short, and where the table does.
 pub fn put_stretch(s: &[u8], i: usize, table: &mut [u64], used: usize) -> Stretch
@@ -53,35 +153,16 @@ pub fn put_stretch(s: &[u8], i: usize, table: &mut [u64], used: usize) -> Stretc
     let mut upto = i;
     let mut rows: usize = 0;
     while upto < s.len() {
-        let b = s[upto];
-        let behind = upto + 1;
         let at = used + 3 * rows;
         if table.len() - at < 3 {
             return Stretch { upto, rows };
         }
-        if b < 0xc0 {
-            put_at(table, at, plain_kind(b), (b % 128) as u64);
-            upto = behind;
-            rows += 1;
-            continue;
-        }
-        if b == 0xff {
-            upto = padding_end(s, behind);
-            continue;
-        }
-        if b >= 0xf8 {
-            put_late(table, at, b);
-            upto = behind;
-            rows += 1;
-            continue;
-        }
-        let past = long_past(b, s.len() - behind);
-        if past == 0 {
+        let l = put_kind(s, upto, table, at);
+        rows += l.rows;
+        if l.upto == upto {
             return Stretch { upto, rows };
         }
-        put_at(table, at, 1, integer_of(&s[behind..], past));
-        upto = behind + past;
-        rows += 1;
+        upto = l.upto;
     }
     Stretch { upto, rows }
 }

@@ -5,3 +5,4 @@ pub mod Bounds
 pub mod Turns
 pub mod Stretches
 pub mod ObjectCases
+pub mod ShortCases

@@ -5,9 +5,10 @@ use native.Mathlib.Numerals.{add-one}
 use mathlib.Core.Path.{_≡_, refl, sym, ap, ap₂, _∙_, subst}
 use mathlib.Core.Bool.{Bool, true, false}
 use mathlib.Core.List.{List}
+use lib.Dec.{eqb}
 use lib.ListN.{length, take, drop, length-drop}
 use lib.Seq.{length-take-le}
-use Rattle.format.specs.Choice.{pick}
+use Rattle.format.specs.Choice.{pick, ifEq}
 use Rattle.format.specs.Bits.{spread, bytesFor, wordsFor}
 use Rattle.format.specs.Refusals.{at, further}
 use Rattle.format.specs.Items.{Items, end, group, struc, edt, one, bits, kinds, uniform, edtRule}
@@ -27,7 +28,7 @@ use Rattle.scan.specs.declared.Scanned.the-variants.{Refused, Accepted}
 use Rattle.scan.specs.declared.closing.Object as D
 use Rattle.scan.specs.declared.closing.Object.the-variants.{Bad, Got}
 use Rattle.scan.specs.Sums.{cap, sumOf, nothingOf, oneOf, strucKind, groupOf}
-use Rattle.scan.specs.Answer.{answer, answerObject, closedUstruc, closedEdt, closedOf}
+use Rattle.scan.specs.Answer.{answer, answerObject, ustrucFault, edtFault, closedBy, closedOf}
 use Rattle.scan.proofs.KindsMet.{kinds-codes, several, struc-kind, edt-leads}
 use Rattle.scan.proofs.SumLaws.{sum-none, sum-row, sum-bits, sum-text, sum-group, sum-times}
 use Rattle.scan.proofs.Told.{refused-run, accepted-run}
@@ -43,13 +44,31 @@ unfolding pick
 picked true x y = refl
 picked false x y = refl
 
-closed-answer : (w : Wrap) (u : ℕ) (xs : Items) → answerObject (closing (wrapOf w) u xs) ≡ closedOf w (sumOf xs) u
-unfolding closing wrapOf closedOf closedUstruc closedEdt answerObject sumOf uniform edtRule
+ustruc-by : (a x : Summary) (u : ℕ) → closedBy (ustrucFault a) x u ≡ ifEq (a .mix) 255 (Bad 8 0) (Got x u)
+unfolding ifEq ustrucFault closedBy
+ustruc-by a x u = go (eqb (a .mix) 255)
+  where
+    go : (t : Bool) → closedBy (pick t 8 0) x u ≡ pick t (Bad 8 0) (Got x u)
+    go true = refl
+    go false = refl
+
+edt-by : (a x : Summary) (u : ℕ) → closedBy (edtFault a) x u ≡ ifEq (a .second) 1 (ifEq (a .first) 1 (Got x u) (ifEq (a .first) 9 (Got x u) (Bad 9 0))) (Bad 9 0)
+unfolding ifEq edtFault closedBy
+edt-by a x u = go (eqb (a .second) 1) (eqb (a .first) 1) (eqb (a .first) 9)
+  where
+    go : (r p q : Bool) → closedBy (pick r (pick p 0 (pick q 0 9)) 9) x u ≡ pick r (pick p (Got x u) (pick q (Got x u) (Bad 9 0))) (Bad 9 0)
+    go false p q = refl
+    go true true q = refl
+    go true false true = refl
+    go true false false = refl
+
+pub closed-answer : (w : Wrap) (u : ℕ) (xs : Items) → answerObject (closing (wrapOf w) u xs) ≡ closedOf w (sumOf xs) u
+unfolding closing wrapOf closedOf answerObject sumOf uniform edtRule
 closed-answer Struc u xs = ap (λ a. Got a u) (struc-sum xs)
 closed-answer Ustruc u xs =
-    picked (uniform xs) _ _ ∙ ap (λ a. pick (uniform xs) (Got a u) (Bad 8 0)) (struc-sum xs) ∙ sym (several (kinds xs) _ _ (kinds-codes xs))
+    picked (uniform xs) _ _ ∙ ap (λ a. pick (uniform xs) (Got a u) (Bad 8 0)) (struc-sum xs) ∙ sym (several (kinds xs) _ _ (kinds-codes xs)) ∙ sym (ustruc-by (sumOf xs) _ u)
 closed-answer Edt u xs =
-    picked (edtRule xs) _ _ ∙ ap (λ a. pick (edtRule xs) (Got a u) (Bad 9 0)) (sum-group edt xs) ∙ sym (edt-leads (kinds xs) _ _)
+    picked (edtRule xs) _ _ ∙ ap (λ a. pick (edtRule xs) (Got a u) (Bad 9 0)) (sum-group edt xs) ∙ sym (edt-leads (kinds xs) _ _) ∙ sym (edt-by (sumOf xs) _ u)
 closed-answer (Repeat k) u xs = ap (λ a. Got a u) (sum-times k xs)
 
 -- ---- the cases of a head, as the code has them

@@ -1,26 +1,28 @@
--- Many small objects at once: the law of one of them, n times. Assumes nothing.
-use Prim.Native.Nat.{ℕ, zero, suc, _+_, _-_, _%_, _≤_, _<_, zero-le}
+-- Many small objects at once. Assumes nothing.
+use Prim.Native.Nat.{ℕ, zero, suc, _+_, _-_, _%_, _≤_, _<_}
 use native.Mathlib.Omega.{arith}
 use native.Mathlib.Nat.{add-zero, le-refl}
-use native.Mathlib.Numerals.{add-one}
 use mathlib.Core.Path.{_≡_, refl, sym, ap, ap₂, _∙_, subst}
-use mathlib.Core.Logic.{_≢_}
 use mathlib.Core.List.{List}
-use lib.ListN.{length, drop, getD, length-drop}
+use lib.ListN.{length, take, drop, getD, length-drop}
+use lib.IntN.{pos}
 use Rattle.format.specs.declared.Class.{Class}
 use Rattle.format.specs.declared.Class.the-variants as C
-use Rattle.format.specs.Items.{char, Items, end, one, join, times, leafKind}
+use Rattle.format.specs.Items.{char, int, Items, end, one, join, times, leafKind}
+use Rattle.format.specs.Numbers.{twos}
 use Rattle.format.specs.Tables.{leafWords}
 use Rattle.format.specs.Classes.{classOf}
-use Rattle.format.specs.Objects.{gives, contents, headBy, headOf}
+use Rattle.format.specs.Objects.{gives, contents, following, integer, headBy, headOf}
 use Rattle.format.specs.Messages.{object, got, onto, next, reads}
-use Rattle.format.proofs.TypeBytes.{char-class}
-use Rattle.format.proofs.Counts.{times-zero, times-suc, join-end, join-assoc}
+use Rattle.format.proofs.TypeBytes.{char-class, small-class}
+use Rattle.format.proofs.Counts.{times-zero, times-suc, join-assoc}
 use Rattle.format.proofs.Steps.{objectAt}
 use Rattle.wire.specs.Ranges.{Between}
-use Rattle.wire.specs.Heads.{LongPast, RowAt, lateKind}
-use Rattle.wire.proofs.RowsAt.{small-at, long-at, late-at}
+use Rattle.wire.proofs.Ranges.{between-none, between-join, between-next}
+use Rattle.wire.specs.Heads.{RowAt, lateKind}
+use Rattle.wire.proofs.RowsAt.{long-at, late-at}
 use Rattle.scan.specs.declared.summary.Summary.{Summary}
+use Rattle.scan.specs.declared.stretch.Leap.{Leap}
 use Rattle.scan.specs.Sums.{sumOf, nothingOf, oneOf, plusOf, powerOf}
 use Rattle.scan.specs.Stretch.{Counted, Leapt}
 use Rattle.scan.proofs.SumLaws.{sum-none, sum-row, sum-join, sum-times}
@@ -47,17 +49,19 @@ power-suc n x y e =
     rw (← e)
     (ap (plusOf (sumOf x)) (sym (sum-times n x)) ∙ sym (sum-join x (times n x)) ∙ ap sumOf (sym (times-suc n x)) ∙ sum-times (suc n) x)
 
--- one more, at the end
-times-next : (n : ℕ) (x : Items) → join (times n x) x ≡ times (suc n) x
+-- so many, and then so many more
+times-join : (n m : ℕ) (x : Items) → join (times n x) (times m x) ≡ times (n + m) x
 unfolding join
-times-next zero x = ap (λ z. join z x) (times-zero x) ∙ sym (times-suc 0 x ∙ ap (join x) (times-zero x) ∙ join-end x)
-times-next (suc n) x =
-    ap (λ z. join z x) (times-suc n x) ∙ join-assoc x (times n x) x ∙ ap (join x) (times-next n x) ∙ sym (times-suc (suc n) x)
+times-join zero m x = ap (λ z. join z (times m x)) (times-zero x) ∙ (let e : 0 + m ≡ m = omega arith in rw e refl)
+times-join (suc n) m x =
+    let e : suc n + m ≡ suc (n + m) = omega arith in
+    rw e
+    (ap (λ z. join z (times m x)) (times-suc n x) ∙ join-assoc x (times n x) (times m x) ∙ ap (join x) (times-join n m x) ∙ sym (times-suc (n + m) x))
 
-power-next : (n : ℕ) (x : Items) (y : Summary) → sumOf x ≡ y → plusOf (powerOf n y) y ≡ powerOf (n + 1) y
-power-next n x y e =
-    rw (← e, add-one n)
-    (ap (λ z. plusOf z (sumOf x)) (sym (sum-times n x)) ∙ sym (sum-join (times n x) x) ∙ ap sumOf (times-next n x) ∙ sum-times (suc n) x)
+power-join : (n m : ℕ) (x : Items) (y : Summary) → sumOf x ≡ y → plusOf (powerOf n y) (powerOf m y) ≡ powerOf (n + m) y
+power-join n m x y e =
+    rw (← e)
+    (ap₂ plusOf (sym (sum-times n x)) (sym (sum-times m x)) ∙ sym (sum-join (times n x) (times m x)) ∙ ap sumOf (times-join n m x) ∙ sum-times (n + m) x)
 
 many : (s : List ℕ) (y : Summary) (n i : ℕ) → i + n ≤ length s → ((j : ℕ) → i ≤ j → j < i + n → Single y (getD s j 0)) → Many s y i n
 unfolding next
@@ -90,6 +94,13 @@ pub a-char : (b : ℕ) → 0 ≤ b → b ≤ 0x7f → Single (oneOf 3 1 0) b
 unfolding headBy leafKind leafWords
 a-char b l h = by-class C.Char7 b (one (char b)) (oneOf 3 1 0) (char-class b (omega arith)) (λ d s. refl) (sum-row (char b) 3 refl refl)
 
+a-small : (b : ℕ) → 0x80 ≤ b → b ≤ 0xbf → Single (oneOf 1 1 0) b
+unfolding headBy leafKind leafWords
+a-small b l h =
+    let e : 0x80 + (b - 0x80) ≡ b = omega arith in
+    by-class C.Sinteger b (one (int (pos (b - 0x80)))) (oneOf 1 1 0) (rw e at (small-class (b - 0x80) (omega arith))) (λ d s. refl)
+    (sum-row (int (pos (b - 0x80))) 1 refl refl)
+
 pub padding : (b : ℕ) → 0xff ≤ b → b ≤ 0xff → Single nothingOf b
 unfolding headBy classOf
 padding b l h =
@@ -100,91 +111,144 @@ pub power-none : (n : ℕ) → powerOf n nothingOf ≡ nothingOf
 unfolding times
 power-none n = ap (powerOf n) (sym sum-none) ∙ sym (sum-times n end) ∙ sum-none
 
--- ---- integers, one more at a time
-module _ (s : List ℕ) (i : ℕ) where
-  pub counted-none : i ≤ length s → Counted s i i 0
-  counted-none h =
+each-byte : (lo hi : ℕ) (y : Summary) → ((b : ℕ) → lo ≤ b → b ≤ hi → Single y b) → (s : List ℕ) (i e : ℕ) → i ≤ e → e ≤ length s → Between lo hi i e s → Many s y i (e - i)
+each-byte lo hi y each s i e p q h =
+    many s y (e - i) i (omega arith) (λ j u v. let z = h j u (omega arith) in each (getD s j 0) (z .0) (z .1))
+
+-- ---- integers
+an-int : sumOf (one (int (pos 0))) ≡ oneOf 1 1 0
+unfolding leafKind leafWords
+an-int = sum-row (int (pos 0)) 1 refl refl
+
+module _ (s : List ℕ) where
+  pub counted-none : (i : ℕ) → i ≤ length s → Counted s i i 0
+  counted-none i h =
       let k : i - i ≡ 0 = omega arith in
       record {
         items = end;
         sum-is = sum-none ∙ power-zero (oneOf 1 1 0);
         from = le-refl i;
         to = h;
-        few = zero-le;
+        few = omega arith;
         over = λ d. rw k (onto-none (reads d (drop i s)));
       }
 
-  counted-next : (e n v u : ℕ) → Counted s i e n → e < length s → u ≤ length s - (e + 1) → RowAt (getD s e 0) (drop (e + 1) s) 1 v u → Counted s i (e + (1 + u)) (n + 1)
-  unfolding next objectAt object
-  counted-next e n v u c h l r =
-      let x : Items = one (r .leaf) in
-      let y : sumOf x ≡ oneOf 1 1 0 = sum-row (r .leaf) 1 (r .row .kind) (r .row .none) in
-      let k = c .from in
-      let f : e - i + (1 + u) ≡ e + (1 + u) - i = omega arith in
+  -- some, and then more
+  pub counted-join : (i e f n m : ℕ) → Counted s i e n → Counted s e f m → Counted s i f (n + m)
+  counted-join i e f n m a b =
+      let p = a .from in
+      let q = b .from in
+      let k : e - i + (f - e) ≡ f - i = omega arith in
       record {
-        items = join (c .items) x;
-        sum-is = sum-join (c .items) x ∙ ap₂ plusOf (c .sum-is) y ∙ power-next n x (oneOf 1 1 0) y;
+        items = join (a .items) (b .items);
+        sum-is = sum-join (a .items) (b .items) ∙ ap₂ plusOf (a .sum-is) (b .sum-is) ∙ power-join n m (one (int (pos 0))) (oneOf 1 1 0) an-int;
         from = omega arith;
-        to = omega arith;
-        few = let q = c .few in omega arith;
+        to = b .to;
+        few = omega (arith, a .few, b .few);
         over = λ d.
-            c .over d
-            ∙ ap (onto (c .items) (e - i)) (turn d s e h ∙ ap (λ z. next (object (λ a m. reads (suc d) (contents (drop (e + 1) s) a m)) z) (λ w. reads d (drop (e + (1 + w)) s))) (r .head d))
-            ∙ onto-onto (c .items) x (e - i) (1 + u) (reads d (drop (e + (1 + u)) s))
-            ∙ ap (λ m. onto (join (c .items) x) m (reads d (drop (e + (1 + u)) s))) f;
+            a .over d
+            ∙ ap (onto (a .items) (e - i)) (b .over d)
+            ∙ onto-onto (a .items) (b .items) (e - i) (f - e) (reads d (drop f s))
+            ∙ ap (λ j. onto (join (a .items) (b .items)) j (reads d (drop f s))) k;
       }
 
-  pub counted-small : (e n : ℕ) → Counted s i e n → e < length s → 0x80 ≤ getD s e 0 → getD s e 0 < 0xc0 → Counted s i (e + 1) (n + 1)
-  counted-small e n c h g l = counted-next e n (getD s e 0 % 64) 0 c h zero-le (small-at (getD s e 0) (drop (e + 1) s) g l)
+  -- one, of u bytes past the type-byte
+  counted-one : (i v u : ℕ) → i < length s → u ≤ length s - (i + 1) → RowAt (getD s i 0) (drop (i + 1) s) 1 v u → Counted s i (i + (1 + u)) 1
+  unfolding next objectAt object powerOf
+  counted-one i v u h l r =
+      let k : i + (1 + u) - i ≡ 1 + u = omega arith in
+      record {
+        items = one (r .leaf);
+        sum-is = sum-row (r .leaf) 1 (r .row .kind) (r .row .none);
+        from = omega arith;
+        to = omega arith;
+        few = omega arith;
+        over = λ d.
+            rw k
+            (turn d s i h
+            ∙ ap (λ z. next (object (λ a m. reads (suc d) (contents (drop (i + 1) s) a m)) z) (λ w. reads d (drop (i + (1 + w)) s))) (r .head d));
+      }
 
-  pub counted-long : (e n u : ℕ) → Counted s i e n → e < length s → LongPast (getD s e 0) (length s - (e + 1)) u → u ≢ 0 → Counted s i (e + 1 + u) (n + 1)
-  counted-long e n u c h l z =
-      let q = l (omega arith) in
-      let b : ℕ = getD s e 0 in
-      let k : e + (1 + u) ≡ e + 1 + u = omega arith in
-      subst (λ m. Counted s i m (n + 1)) k
-      (counted-next e n _ u c h (q .3) (long-at b u _ (drop (e + 1) s) (q .0) (q .1) (q .2) (rw (length-drop (e + 1) s) (q .3)) refl))
+  many-counted : (i e : ℕ) → i ≤ e → e ≤ length s → Many s (oneOf 1 1 0) i (e - i) → Counted s i e (e - i)
+  many-counted i e p q m =
+      let k : i + (e - i) ≡ e = omega arith in
+      record {
+        items = m .items;
+        sum-is = m .sum-is;
+        from = p;
+        to = q;
+        few = omega arith;
+        over = λ d. m .over d ∙ ap (λ n. onto (m .items) (e - i) (reads d (drop n s))) k;
+      }
 
-  pub counted-leapt : (e n : ℕ) → Counted s i e n → (a : Summary) → a ≡ powerOf n (oneOf 1 1 0) → Leapt s i (record { upto = e; sum = a })
-  counted-leapt e n c a w = record { items = c .items; sum-is = w ∙ sym (c .sum-is); from = c .from; to = c .to; over = c .over }
+  -- one, and as many more as there are
+  pub counted-smalls : (i e : ℕ) → 0x80 ≤ getD s i 0 → getD s i 0 < 0xc0 → (i + 1 ≤ e) × (e ≤ length s) × Between 0x80 0xbf (i + 1) e s → Counted s i e (e - i)
+  counted-smalls i e l g w =
+      let p : i ≤ e = omega (arith, w .0) in
+      many-counted i e p (w .1)
+      (each-byte 0x80 0xbf (oneOf 1 1 0) a-small s i e p (w .1)
+      (between-join 0x80 0xbf i (i + 1) e s (between-next 0x80 0xbf i i s (between-none 0x80 0xbf i s) l (omega arith)) (w .2)))
+
+  -- n bytes, the type-byte b with them
+  pub counted-long : (i b n : ℕ) → getD s i 0 ≡ b → 0xe0 ≤ b → b ≤ 0xe7 → n ≡ 1 + following b → n ≤ length s - i → Counted s i (i + n) 1
+  counted-long i b n e g l k h =
+      let v : ℕ = twos 8 (integer (take (following b) (drop (i + 1) s))) in
+      rw k
+      (counted-one i v (following b) (omega arith) (omega arith)
+      (subst (λ z. RowAt z (drop (i + 1) s) 1 v (following b)) (sym e)
+      (long-at b (following b) v (drop (i + 1) s) g l refl (rw (length-drop (i + 1) s) (omega arith)) refl)))
+
+  pub counted-leapt : (i e n : ℕ) → Counted s i e n → Leapt s i (record { upto = e; kind = 1; many = n })
+  counted-leapt i e n c = record { items = c .items; sum-is = sym (c .sum-is); from = c .from; to = c .to; over = c .over }
 
 -- ---- the law of a leap
-many-leapt : (s : List ℕ) (y : Summary) (i e : ℕ) → i ≤ e → e ≤ length s → Many s y i (e - i) → (a : Summary) → a ≡ powerOf (e - i) y
-    → Leapt s i (record { upto = e; sum = a })
-many-leapt s y i e p q m a w =
-    let k : i + (e - i) ≡ e = omega arith in
+many-leapt : (s : List ℕ) (k i e : ℕ) → i ≤ e → e ≤ length s → Many s (oneOf k 1 0) i (e - i) → Leapt s i (record { upto = e; kind = k; many = e - i })
+many-leapt s k i e p q m =
+    let z : i + (e - i) ≡ e = omega arith in
     record {
       items = m .items;
-      sum-is = w ∙ sym (m .sum-is);
+      sum-is = sym (m .sum-is);
       from = p;
       to = q;
-      over = λ d. m .over d ∙ ap (λ n. onto (m .items) (e - i) (reads d (drop n s))) k;
+      over = λ d. m .over d ∙ ap (λ n. onto (m .items) (e - i) (reads d (drop n s))) z;
     }
 
-pub leapt : (lo hi : ℕ) (y : Summary) → ((b : ℕ) → lo ≤ b → b ≤ hi → Single y b) → (s : List ℕ) (i e : ℕ) → (i ≤ e) × (e ≤ length s) × Between lo hi i e s
-    → (a : Summary) → a ≡ powerOf (e - i) y → Leapt s i (record { upto = e; sum = a })
-leapt lo hi y each s i e h a w =
-    many-leapt s y i e (h .0) (h .1)
-    (many s y (e - i) i (omega arith) (λ j u v. let z = h .2 j u (omega arith) in each (getD s j 0) (z .0) (z .1))) a w
+pub chars-leapt : (s : List ℕ) (i e : ℕ) → i ≤ e → e ≤ length s → Between 0 0x7f i e s → Leapt s i (record { upto = e; kind = 3; many = e - i })
+chars-leapt s i e p q h = many-leapt s 3 i e p q (each-byte 0 0x7f (oneOf 3 1 0) a-char s i e p q h)
 
-pub late-leapt : (s : List ℕ) (i : ℕ) → i < length s → 0xf8 ≤ getD s i 0 → getD s i 0 < 0xff → (a : Summary) → a ≡ oneOf (lateKind (getD s i 0)) 1 0
-    → Leapt s i (record { upto = i + 1; sum = a })
-unfolding next objectAt object
-late-leapt s i h g l a w =
+-- no items: padding, or nothing at all
+none-leapt : (s : List ℕ) (i e k n : ℕ) → i ≤ e → e ≤ length s → Many s nothingOf i (e - i) → n ≡ 0 → Leapt s i (record { upto = e; kind = k; many = n })
+none-leapt s i e k n p q m w =
+    let z : i + (e - i) ≡ e = omega arith in
+    record {
+      items = m .items;
+      sum-is = ap (λ x. powerOf x (oneOf k 1 0)) w ∙ sym (power-zero (oneOf k 1 0)) ∙ sym (m .sum-is ∙ power-none (e - i));
+      from = p;
+      to = q;
+      over = λ d. m .over d ∙ ap (λ x. onto (m .items) (e - i) (reads d (drop x s))) z;
+    }
+
+pub padding-leapt : (s : List ℕ) (i e : ℕ) (r : Leap) → (i ≤ e) × (e ≤ length s) × Between 0xff 0xff i e s → (r .upto ≡ e) × (r .many ≡ 0) → Leapt s i r
+padding-leapt s i e r h w =
+    none-leapt s i (r .upto) (r .kind) (r .many) (omega (arith, w .0)) (omega (arith, w .0))
+    (rw (w .0) (each-byte 0xff 0xff nothingOf padding s i e (h .0) (h .1) (h .2))) (w .1)
+
+pub no-leap : (s : List ℕ) (i : ℕ) (r : Leap) → i ≤ length s → (r .upto ≡ i) × (r .many ≡ 0) → Leapt s i r
+no-leap s i r h w = padding-leapt s i i r (le-refl i, h, between-none 0xff 0xff i s) w
+
+pub late-leapt : (s : List ℕ) (i k : ℕ) → i < length s → 0xf8 ≤ getD s i 0 → getD s i 0 < 0xff → k ≡ lateKind (getD s i 0)
+    → Leapt s i (record { upto = i + 1; kind = k; many = 1 })
+unfolding next objectAt object powerOf
+late-leapt s i k h g l w =
     let r = late-at (getD s i 0) (drop (i + 1) s) g l in
-    let k : i + 1 - i ≡ 1 + 0 = omega arith in
+    let z : i + 1 - i ≡ 1 + 0 = omega arith in
     record {
       items = one (r .leaf);
-      sum-is = w ∙ sym (sum-row (r .leaf) (lateKind (getD s i 0)) (r .row .kind) (r .row .none));
+      sum-is = ap (λ n. oneOf n 1 0) w ∙ sym (sum-row (r .leaf) (lateKind (getD s i 0)) (r .row .kind) (r .row .none));
       from = omega arith;
       to = omega arith;
       over = λ d.
-          rw k
+          rw z
           (turn d s i h
           ∙ ap (λ z. next (object (λ b m. reads (suc d) (contents (drop (i + 1) s) b m)) z) (λ u. reads d (drop (i + (1 + u)) s))) (r .head d));
     }
-
-pub no-leap : (s : List ℕ) (i : ℕ) → i ≤ length s → (a : Summary) → a ≡ nothingOf → Leapt s i (record { upto = i; sum = a })
-no-leap s i h a w =
-    let k : i - i ≡ 0 = omega arith in
-    record { items = end; sum-is = w ∙ sym sum-none; from = le-refl i; to = h; over = λ d. rw k (onto-none (reads d (drop i s))) }

@@ -16,7 +16,7 @@ use Rattle.scan.specs.declared.summary.Summary.{Summary}
 use Rattle.scan.specs.declared.Scanned.the-variants.{Refused, Accepted}
 use Rattle.scan.specs.declared.closing.Object.the-variants.{Bad, Got}
 use Rattle.scan.specs.declared.stretch.Leap.{Leap}
-use Rattle.scan.specs.Sums.{sumOf, nothingOf, plusOf}
+use Rattle.scan.specs.Sums.{sumOf, nothingOf, oneOf, plusOf, powerOf}
 use Rattle.scan.specs.Answer.{answer, answerObject}
 use Rattle.scan.specs.Stretch.{Leapt}
 use Rattle.scan.proofs.Told.{bad-object, got-object}
@@ -72,8 +72,8 @@ module _ (d : ℕ) (s : List ℕ) (i : ℕ) (a : Summary) (v : Inv d s i a) wher
         sum-is = g ∙ ap₂ plusOf (v .sum-is) f ∙ sym (sum-join (v .items) ys);
       }
 
-  pub leap-turn : (r : Leap) → Leapt s i r → (c : Summary) → c ≡ plusOf a (r .sum) → Inv d s (r .upto) c
-  leap-turn r l c g = inv-more (l .items) (r .upto) (r .sum) c (l .from) (l .to) (l .over d) (l .sum-is) g
+  pub leap-turn : (r : Leap) → Leapt s i r → (c : Summary) → c ≡ plusOf a (powerOf (r .many) (oneOf (r .kind) 1 0)) → Inv d s (r .upto) c
+  leap-turn r l c g = inv-more (l .items) (r .upto) (powerOf (r .many) (oneOf (r .kind) 1 0)) c (l .from) (l .to) (l .over d) (l .sum-is) g
 
   module _ (h : i < length s) where
     -- the object at i, as the code lends its bytes on

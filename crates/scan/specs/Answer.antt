@@ -23,21 +23,24 @@ unfolding sumOf
 answerObject (M.bad f) = Bad (f .number) (f .place)
 answerObject (M.got xs u) = Got (sumOf xs) u
 
--- a container, from what its contents come to; `u` are its bytes past the type-byte
-unfoldable pub closedUstruc : Summary → ℕ → Object
-unfolding ifEq strucKind
-closedUstruc a u = ifEq (a .mix) 255 (Bad several-kinds 0) (Got (groupOf (strucKind (a .mix)) a) u)
-
-unfoldable pub closedEdt : Summary → ℕ → Object
+-- the refusal of a container for the kinds of its elements, or 0
+unfoldable pub ustrucFault : Summary → ℕ
 unfolding ifEq
-closedEdt a u =
-    ifEq (a .second) INT
-    (ifEq (a .first) INT (Got (groupOf EDT a) u) (ifEq (a .first) STRING (Got (groupOf EDT a) u) (Bad bad-edt 0)))
-    (Bad bad-edt 0)
+ustrucFault a = ifEq (a .mix) 255 several-kinds 0
 
+unfoldable pub edtFault : Summary → ℕ
+unfolding ifEq
+edtFault a = ifEq (a .second) INT (ifEq (a .first) INT 0 (ifEq (a .first) STRING 0 bad-edt)) bad-edt
+
+-- a container, from its refusal or 0 and the item that it is; `u` are its bytes past the type-byte
+unfoldable pub closedBy : ℕ → Summary → ℕ → Object
+unfolding ifEq
+closedBy f x u = ifEq f 0 (Got x u) (Bad f 0)
+
+-- a container, from what its contents come to
 unfoldable pub closedOf : Wrap → Summary → ℕ → Object
-unfolding strucKind closedUstruc closedEdt powerOf
+unfolding strucKind ustrucFault edtFault closedBy powerOf
 closedOf Struc a u = Got (groupOf (strucKind (a .mix)) a) u
-closedOf Ustruc a u = closedUstruc a u
-closedOf Edt a u = closedEdt a u
+closedOf Ustruc a u = closedBy (ustrucFault a) (groupOf (strucKind (a .mix)) a) u
+closedOf Edt a u = closedBy (edtFault a) (groupOf EDT a) u
 closedOf (Repeat k) a u = Got (powerOf k a) u

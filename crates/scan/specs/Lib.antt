@@ -1,3 +1,4 @@
 pub mod Sums
 pub mod Answer
 pub mod Stretch
+pub mod Shorts

@@ -1,5 +1,5 @@
 -- A stretch of small objects of one kind.
-use Prim.Native.Nat.{ℕ, _-_, _≤_, _<_}
+use Prim.Native.Nat.{ℕ, _+_, _-_, _≤_, _<_}
 use mathlib.Core.Path.{_≡_}
 use mathlib.Core.List.{List}
 use lib.ListN.{length, drop, getD}
@@ -14,13 +14,13 @@ pub record Counted (s : List ℕ) (i e n : ℕ) : Type 0 where
   pub sum-is : sumOf items ≡ powerOf n (oneOf 1 1 0)
   pub from : i ≤ e
   pub to : e ≤ length s
-  pub few : n ≤ e
+  pub few : i + n ≤ e
   pub over : (d : ℕ) → reads d (drop i s) ≡ onto items (e - i) (reads d (drop e s))
 
--- what a leap from i is: from there to where it ends the bytes say `items`, however deep they stand
+-- what a leap from i is: from there to where it ends the bytes say `items`, so many of its kind, however deep they stand
 pub record Leapt (s : List ℕ) (i : ℕ) (r : Leap) : Type 0 where
   pub items : Items
-  pub sum-is : r .sum ≡ sumOf items
+  pub sum-is : powerOf (r .many) (oneOf (r .kind) 1 0) ≡ sumOf items
   pub from : i ≤ r .upto
   pub to : r .upto ≤ length s
   pub over : (d : ℕ) → reads d (drop i s) ≡ onto items (r .upto - i) (reads d (drop (r .upto) s))

@@ -1,6 +1,8 @@
 // How a container closes over what its contents come to.
 ghost use mathlib.Core.Path.{_≡_};
-ghost use Rattle.scan.specs.Answer.{closedUstruc, closedEdt, closedOf};
+ghost use Rattle.scan.specs.Answer.{ustrucFault, edtFault, closedBy, closedOf};
+ghost use Rattle.scan.specs.Sums.{groupOf};
+ghost use Rattle.scan.specs.Shorts.{faultOf, textFault, shortKind};
 use super::summary::INT;
 use super::summary::SEVERAL;
 use super::summary::STRING;
@@ -17,29 +19,76 @@ pub enum Object {
     Got(Summary, usize),
 }
 
-fn closed_ustruc(a: Summary, past: usize) -> Object
-    ensures { λ r. ⌜ r ≡ closedUstruc a past ⌝ }
+// The number with which a USTRUC of such elements is refused, or 0.
+fn ustruc_fault(a: Summary) -> usize
+    ensures { λ r. ⌜ r ≡ ustrucFault a ⌝ }
 {
-    if a.mix == SEVERAL {
-        return Object::Bad(8, 0);
-    }
-    Object::Got(struc(a), past)
+    if a.mix == SEVERAL { 8 } else { 0 }
 }
 
-// An EDT's first element is an INT or a string and its second an INT.
-fn closed_edt(a: Summary, past: usize) -> Object
-    ensures { λ r. ⌜ r ≡ closedEdt a past ⌝ }
+// Of an EDT: its first element is an INT or a string and its second an INT.
+fn edt_fault(a: Summary) -> usize
+    ensures { λ r. ⌜ r ≡ edtFault a ⌝ }
 {
     if a.second != INT {
-        return Object::Bad(9, 0);
+        return 9;
     }
     if a.first == INT {
-        return Object::Got(edt(a), past);
+        return 0;
     }
     if a.first == STRING {
-        return Object::Got(edt(a), past);
+        return 0;
     }
-    Object::Bad(9, 0)
+    9
+}
+
+// The number with which a container of the type-byte C2, C5 or C3 is refused for the kinds of its elements, or 0.
+pub fn fault_of(b: u8, a: Summary) -> usize
+    ensures { λ r. ⌜ r ≡ faultOf b a ⌝ }
+{
+    if b == 0xc2 {
+        return 0;
+    }
+    if b == 0xc5 {
+        return ustruc_fault(a);
+    }
+    edt_fault(a)
+}
+
+// The same of one whose elements are all CHARs.
+pub fn text_fault(b: u8) -> usize
+    ensures { λ r. ⌜ r ≡ textFault b ⌝ }
+{
+    if b == 0xc2 {
+        return 0;
+    }
+    if b == 0xc5 {
+        return 0;
+    }
+    9
+}
+
+// The item that such a container is.
+pub fn group_of(b: u8, a: Summary) -> Summary
+    ensures { λ r. ⌜ r ≡ groupOf (shortKind b (a .mix)) a ⌝ }
+{
+    if b == 0xc2 {
+        return struc(a);
+    }
+    if b == 0xc5 {
+        return struc(a);
+    }
+    edt(a)
+}
+
+// A container that is the item `one`, if it has no fault.
+fn closed_by(fault: usize, one: Summary, past: usize) -> Object
+    ensures { λ r. ⌜ r ≡ closedBy fault one past ⌝ }
+{
+    if fault != 0 {
+        return Object::Bad(fault, 0);
+    }
+    Object::Got(one, past)
 }
 
 pub fn closed(w: Wrap, a: Summary, past: usize) -> Object
@@ -47,8 +96,8 @@ pub fn closed(w: Wrap, a: Summary, past: usize) -> Object
 {
     match w {
         Wrap::Struc => Object::Got(struc(a), past),
-        Wrap::Ustruc => closed_ustruc(a, past),
-        Wrap::Edt => closed_edt(a, past),
+        Wrap::Ustruc => closed_by(ustruc_fault(a), struc(a), past),
+        Wrap::Edt => closed_by(edt_fault(a), edt(a), past),
         Wrap::Repeat(k) => Object::Got(power(k, a), past),
     }
 }

@@ -1,10 +1,11 @@
 // Checks a message and measures it. Nothing is laid out, and no table is touched.
 ghost use mathlib.Core.Path.{_≡_};
-ghost use Prim.Native.Nat.{_≤_};
+ghost use Prim.Native.Nat.{_+_, _≤_, _<_};
 ghost use lib.ListN.{length};
 ghost use Rattle.format.specs.Messages.{reads, outcome};
 ghost use Rattle.format.proofs.Steps.{objectAt};
 ghost use Rattle.scan.specs.Answer.{answer, answerObject};
+ghost use Rattle.scan.specs.Shorts.{shortObject, asObject};
 
 mod closing;
 mod stretch;
@@ -12,6 +13,10 @@ pub mod summary;
 
 use closing::Object;
 use closing::closed;
+use closing::fault_of;
+use closing::group_of;
+use closing::text_fault;
+use stretch::all_chars;
 use stretch::leap_from;
 use summary::STRING;
 use summary::Summary;
@@ -20,8 +25,10 @@ use summary::capped;
 use summary::nothing;
 use summary::one_of;
 use summary::plus;
+use summary::plus_many;
 use wire::head::Head;
 use wire::head::head_of;
+use wire::short::short_size;
 
 // What a run of objects comes to: the number and the place of its refusal, or its items' summary.
 pub enum Scanned {
@@ -30,6 +37,7 @@ pub enum Scanned {
 }
 
 // A run of objects with `depth` containers around it. Recursion goes only into containers, so that the stack stays shallow.
+// Most containers have a size of one byte, and are tried first.
 fn scan_run(depth: usize, s: &[u8]) -> Scanned
     requires { ⌜ (length (now s) ≤ 65536) × (depth ≤ 16) ⌝ }
     ensures { λ r. ⌜ r ≡ answer (reads depth (now (s .entry))) ⌝ }
@@ -37,19 +45,30 @@ fn scan_run(depth: usize, s: &[u8]) -> Scanned
     let mut i: usize = 0;
     let mut sum = nothing();
     while i < s.len() {
+        let b = s[i];
+        let behind = i + 1;
+        let n = short_size(depth, b, &s[behind..]);
+        if n > 0 {
+            let end = i + 2 + n;
+            let r = scan_short(depth, b, &s[i + 2..end]);
+            match r {
+                Scanned::Refused(number, place) => return Scanned::Refused(number, i + place),
+                Scanned::Accepted(one) => {
+                    sum = plus(sum, one);
+                    i = end;
+                    continue;
+                }
+            }
+        }
         let l = leap_from(s, i);
         if l.upto > i {
-            let many = l.sum;
-            sum = plus(sum, many);
+            sum = plus_many(sum, l.kind, l.many);
             i = l.upto;
             continue;
         }
-        let behind = i + 1;
-        let o = scan_object(depth, s[i], &s[behind..]);
+        let o = scan_object(depth, b, &s[behind..]);
         match o {
-            Object::Bad(number, place) => {
-                return Scanned::Refused(number, i + place);
-            }
+            Object::Bad(number, place) => return Scanned::Refused(number, i + place),
             Object::Got(one, past) => {
                 sum = plus(sum, one);
                 i += 1 + past;
@@ -57,6 +76,36 @@ fn scan_run(depth: usize, s: &[u8]) -> Scanned
         }
     }
     Scanned::Accepted(sum)
+}
+
+// The STRUC, USTRUC, EDT or STRING of the type-byte b whose contents are c and whose size is one byte. It is one item; the place
+// of a refusal is from the type-byte on.
+fn scan_short(depth: usize, b: u8, c: &[u8]) -> Scanned
+    requires { ⌜ (0 < length (now c)) × (length (now c) ≤ 127) × (depth < 16) ⌝ }
+    ensures { λ r. ⌜ asObject (1 + length (now (c .entry))) r ≡ answerObject (shortObject depth b (now (c .entry))) ⌝ }
+{
+    let n = c.len();
+    if b == 0xc6 {
+        return Scanned::Accepted(one_of(STRING, n + 1, 0));
+    }
+    if all_chars(c) {
+        let fault = text_fault(b);
+        if fault != 0 {
+            return Scanned::Refused(fault, 0);
+        }
+        return Scanned::Accepted(one_of(STRING, n + 1, 0));
+    }
+    let r = scan_run(depth + 1, c);
+    match r {
+        Scanned::Refused(number, place) => Scanned::Refused(number, 2 + place),
+        Scanned::Accepted(sum) => {
+            let fault = fault_of(b, sum);
+            if fault != 0 {
+                return Scanned::Refused(fault, 0);
+            }
+            Scanned::Accepted(group_of(b, sum))
+        }
+    }
 }
 
 // The object whose type-byte is b; s are the bytes behind it, up to the end of the enclosing object or of the input.

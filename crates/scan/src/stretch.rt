@@ -1,23 +1,23 @@
 // Stretches: many small objects of one kind, counted in a tight loop and accounted for at once.
 ghost use mathlib.Core.Path.{_≡_};
-ghost use Prim.Native.Nat.{_≤_, _<_};
+ghost use mathlib.Core.Bool.{true};
+ghost use Prim.Native.Nat.{_+_, _≤_, _<_};
 ghost use lib.ListN.{length};
+ghost use Rattle.format.specs.Objects.{following};
 ghost use Rattle.wire.specs.Ranges.{Between};
 ghost use Rattle.scan.specs.Stretch.{Counted, Leapt};
 use super::summary::CHAR;
 use super::summary::INT;
-use super::summary::Summary;
-use super::summary::nothing;
-use super::summary::one_of;
-use super::summary::power;
-use wire::integer::long_past;
+use wire::integer::following_of;
 use wire::late::late_row;
 use wire::padding::padding_end;
+use wire::span::until;
 
-// Where a stretch ends, and what it comes to.
+// Where a stretch ends, and how many items of what kind it is.
 pub struct Leap {
     pub upto: usize,
-    pub sum: Summary,
+    pub kind: usize,
+    pub many: usize,
 }
 
 // Where a stretch of integers ends, and how many they are.
@@ -26,26 +26,55 @@ struct Ints {
     many: usize,
 }
 
-// Where the bytes from i on that are lo to hi end.
-fn until(s: &[u8], i: usize, lo: u8, hi: u8) -> usize
-    requires { ⌜ i ≤ length (now s) ⌝ }
-    ensures { λ r. ⌜ (i ≤ r) × (r ≤ length (now (s .entry))) × Between lo hi i r (now (s .entry)) ⌝ }
+// Up to e, and no items.
+fn no_items(e: usize) -> Leap
+    ensures { λ r. ⌜ (r .upto ≡ e) × (r .many ≡ 0) ⌝ }
 {
-    let mut e = i;
-    while e < s.len() {
-        let b = s[e];
-        if b < lo {
-            return e;
-        }
-        if b > hi {
-            return e;
-        }
-        e += 1;
+    Leap {
+        upto: e,
+        kind: 0,
+        many: 0,
     }
-    e
 }
 
-// The integers from i on, of one byte or more, as far as they are whole.
+// The LINTEGERs from i on that have the type-byte b, of which each has `size` bytes.
+fn same_ints(s: &[u8], i: usize, b: u8, size: usize) -> Ints
+    requires { ⌜ (i ≤ length (now s)) × (0xe0 ≤ b) × (b ≤ 0xe7) × (size ≡ 1 + following b) ⌝ }
+    ensures { λ r. ⌜ Counted (now (s .entry)) i (r .upto) (r .many) ⌝ }
+{
+    let mut e = i;
+    let mut many: usize = 0;
+    while s.len() - e >= size {
+        if s[e] != b {
+            return Ints { upto: e, many };
+        }
+        e += size;
+        many += 1;
+    }
+    Ints { upto: e, many }
+}
+
+// How far the SINTEGERs from i on are passed: all of them where many bytes are left, else none. One byte tells where there is
+// none.
+fn smalls_end(s: &[u8], i: usize) -> usize
+    requires { ⌜ i ≤ length (now s) ⌝ }
+    ensures { λ r. ⌜ (i ≤ r) × (r ≤ length (now (s .entry))) × Between 0x80 0xbf i r (now (s .entry)) ⌝ }
+{
+    if s.len() - i < 64 {
+        return i;
+    }
+    let b = s[i];
+    if b < 0x80 {
+        return i;
+    }
+    if b > 0xbf {
+        return i;
+    }
+    until(s, i, 0x80, 0xbf)
+}
+
+// The integers from i on, of one byte or more, as far as they are whole. Where many bytes are left, those of one class or of one
+// type-byte are passed together.
 fn ints_from(s: &[u8], i: usize) -> Ints
     requires { ⌜ i ≤ length (now s) ⌝ }
     ensures { λ r. ⌜ Counted (now (s .entry)) i (r .upto) (r .many) ⌝ }
@@ -54,23 +83,60 @@ fn ints_from(s: &[u8], i: usize) -> Ints
     let mut many: usize = 0;
     while e < s.len() {
         let b = s[e];
-        let behind = e + 1;
+        let left = s.len() - e;
         if b < 0x80 {
             return Ints { upto: e, many };
         }
         if b < 0xc0 {
-            e = behind;
-            many += 1;
+            let r = smalls_end(s, e + 1);
+            many += r - e;
+            e = r;
             continue;
         }
-        let past = long_past(b, s.len() - behind);
-        if past == 0 {
+        if b < 0xe0 {
             return Ints { upto: e, many };
         }
-        e = behind + past;
+        if b > 0xe7 {
+            return Ints { upto: e, many };
+        }
+        let size = 1 + following_of(b);
+        if left >= 64 {
+            let l = same_ints(s, e + size, b, size);
+            e = l.upto;
+            many += 1 + l.many;
+            continue;
+        }
+        if left < size {
+            return Ints { upto: e, many };
+        }
+        e += size;
         many += 1;
     }
     Ints { upto: e, many }
+}
+
+// Whether all bytes are CHAR7.
+pub fn all_chars(s: &[u8]) -> bool
+    requires { ⌜ 0 < length (now s) ⌝ }
+    ensures { λ r. ⌜ (r ≡ true → Between 0 0x7f 0 (length (now (s .entry))) (now (s .entry))) ⌝ }
+{
+    if s[0] >= 0x80 {
+        return false;
+    }
+    until(s, 0, 0, 0x7f) == s.len()
+}
+
+// The stretch of integers that starts at i.
+fn ints_leap(s: &[u8], i: usize) -> Leap
+    requires { ⌜ i ≤ length (now s) ⌝ }
+    ensures { λ r. ⌜ Leapt (now (s .entry)) i r ⌝ }
+{
+    let l = ints_from(s, i);
+    Leap {
+        upto: l.upto,
+        kind: INT,
+        many: l.many,
+    }
 }
 
 // The stretch of CHAR7, integers or PADDING that starts at i, or one item of another one-byte class; of no bytes where another
@@ -84,32 +150,29 @@ pub fn leap_from(s: &[u8], i: usize) -> Leap
         let e = until(s, i, 0, 0x7f);
         return Leap {
             upto: e,
-            sum: power(e - i, one_of(CHAR, 1, 0)),
+            kind: CHAR,
+            many: e - i,
         };
+    }
+    if b < 0xc0 {
+        return ints_leap(s, i);
+    }
+    if b < 0xe0 {
+        return no_items(i);
     }
     if b < 0xe8 {
-        let l = ints_from(s, i);
-        return Leap {
-            upto: l.upto,
-            sum: power(l.many, one_of(INT, 1, 0)),
-        };
+        return ints_leap(s, i);
+    }
+    if b < 0xf8 {
+        return no_items(i);
     }
     if b == 0xff {
-        let e = padding_end(s, i);
-        return Leap {
-            upto: e,
-            sum: nothing(),
-        };
+        return no_items(padding_end(s, i));
     }
-    if b >= 0xf8 {
-        let r = late_row(b);
-        return Leap {
-            upto: i + 1,
-            sum: one_of(r.kind as usize, 1, 0),
-        };
-    }
+    let r = late_row(b);
     Leap {
-        upto: i,
-        sum: nothing(),
+        upto: i + 1,
+        kind: r.kind as usize,
+        many: 1,
     }
 }

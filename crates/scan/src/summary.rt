@@ -154,6 +154,13 @@ pub fn power(k: usize, a: Summary) -> Summary
     }
 }
 
+// A run, and then so many items of a kind that have one row each and no data words.
+pub fn plus_many(a: Summary, kind: usize, many: usize) -> Summary
+    ensures { λ r. ⌜ r ≡ plusOf a (powerOf many (oneOf kind 1 0)) ⌝ }
+{
+    plus(a, power(many, one_of(kind, 1, 0)))
+}
+
 // A STRUC whose elements are all CHAR, the empty one included, is a string.
 fn struc_kind(mix: usize) -> usize
     ensures { λ r. ⌜ r ≡ strucKind mix ⌝ }

@@ -1,15 +1,13 @@
 -- The INT at the front of contents, found as its meaning says. Assumes nothing.
 use Prim.Native.Nat.{ℕ, suc, _+_, _-_, _*_, _%_, _^_, _≤_, _<_}
 use mathlib.Core.Path.{_≡_, refl, sym, ap, _∙_, subst}
-use mathlib.Core.List.{List, [], _∷_}
+use mathlib.Core.Logic.{_≢_}
+use mathlib.Core.List.{List, _∷_}
 use native.Mathlib.Numerals.{add-one}
 use native.Mathlib.Omega.{arith}
 use lib.ListN.{length, take, drop, getD, length-drop, drop-of-length-le}
 use lib.Seq.{drop-cons, length-take-le}
 use lib.IntN.{pos}
-use types.Run.{OneOf, miss}
-use denote.Enum.Declared.{tagOf}
-use Rattle.format.proofs.Class.{the-type}
 use Rattle.format.specs.declared.Class.{Class}
 use Rattle.format.specs.declared.Class.the-variants as C
 use Rattle.format.specs.Numbers.{Bytes, val, signed, twos}
@@ -110,33 +108,32 @@ leading-long s i b hb h eb ec u =
     rw (ifLt-no (length s - (i + 1)) (O.following b), add-one i)
     ((rw (ifLt-no (length (drop (suc i) s)) (O.following b)) at e) ∙ (rw q (ap (O.found (O.integer (take (O.following b) (drop (suc i) s)))) (omega arith))), omega arith))
 
--- the classes that are neither of an integer nor padding, by their places in the enum
-abbrev pub tags : List ℕ
-tags = 0 ∷ 3 ∷ 4 ∷ 5 ∷ 6 ∷ 7 ∷ 8 ∷ 9 ∷ 10 ∷ 11 ∷ 12 ∷ 13 ∷ 14 ∷ []
+-- a byte that begins no integer and is no padding
+pub record Other (b : ℕ) : Type 0 where
+  pub small : b < 256
+  pub apart : 0x80 ≤ b → b < 0xc0 → ⊥
+  pub above : 0xe0 ≤ b → b < 0xe8 → ⊥
 
-pub no-integer : (c : Class) (b : ℕ) (s : List ℕ) (more : O.Leading) → OneOf tags (tagOf the-type c) → (c ≡ C.Padding → ⊥) → O.leadingBy c b s more ≡ O.absent
+no-integer : (c : Class) (b : ℕ) (s : List ℕ) (more : O.Leading) → InClass b c → Other b → b ≢ 0xff → O.leadingBy c b s more ≡ O.absent
 unfolding O.leadingBy
-no-integer C.Char7 b s more k p = refl
-no-integer C.Sinteger b s more k p = absurd (miss tags 1 tt k)
-no-integer C.Linteger b s more k p = absurd (miss tags 2 tt k)
-no-integer C.Sbitstr b s more k p = refl
-no-integer C.Lbitstr b s more k p = refl
-no-integer C.String b s more k p = refl
-no-integer C.Struc b s more k p = refl
-no-integer C.Ustruc b s more k p = refl
-no-integer C.Edt b s more k p = refl
-no-integer C.Repeat b s more k p = refl
-no-integer C.Xtra b s more k p = refl
-no-integer C.Bool b s more k p = refl
-no-integer C.Empty b s more k p = refl
-no-integer C.Padding b s more k p = absurd (p refl)
-no-integer C.Reserved b s more k p = refl
+no-integer C.Char7 b s more k o p = refl
+no-integer C.Sinteger b s more k o p = absurd (o .apart (k .0) (k .1))
+no-integer C.Linteger b s more k o p = absurd (o .above (k .0) (k .1))
+no-integer C.Sbitstr b s more k o p = refl
+no-integer C.Lbitstr b s more k o p = refl
+no-integer C.String b s more k o p = refl
+no-integer C.Struc b s more k o p = refl
+no-integer C.Ustruc b s more k o p = refl
+no-integer C.Edt b s more k o p = refl
+no-integer C.Repeat b s more k o p = refl
+no-integer C.Xtra b s more k o p = refl
+no-integer C.Bool b s more k o p = refl
+no-integer C.Empty b s more k o p = refl
+no-integer C.Padding b s more k o p = let l = o .small in absurd (p (omega (arith, k)))
+no-integer C.Reserved b s more k o p = refl
 
--- any other class, where the byte is no padding
-pub leading-other : (s : List ℕ) (i b : ℕ) (c : Class) → i < length s → b ≡ getD s i 0 → b < 256 → c ≡ classOf b → Unpadded s i
-    → OneOf tags (tagOf the-type c) → O.leading s ≡ O.absent
+pub leading-other : (s : List ℕ) (i b : ℕ) → i < length s → b ≡ getD s i 0 → Other b → Unpadded s i → O.leading s ≡ O.absent
 unfolding ahead
-leading-other s i b c h eb hb ec u k =
-    at-class s i b c h eb ec u
-    ∙ ap (ahead i) (no-integer c b (drop (suc i) s) (O.leading (drop (suc i) s)) k
-    (λ p. let r : InClass b C.Padding = subst (InClass b) (sym ec ∙ p) (in-class b) in u .there h (let e : getD s i 0 ≡ 0xff = omega arith in e)))
+leading-other s i b h eb o u =
+    at-class s i b (classOf b) h eb refl u
+    ∙ ap (ahead i) (no-integer (classOf b) b (drop (suc i) s) (O.leading (drop (suc i) s)) (in-class b) o (λ e. u .there h (sym eb ∙ e)))

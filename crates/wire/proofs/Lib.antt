@@ -5,3 +5,5 @@ pub mod ShortBits
 pub mod HeadLaws
 pub mod RowsAt
 pub mod Ranges
+pub mod WordLaws
+pub mod ShortLaws

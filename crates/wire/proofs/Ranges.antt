@@ -21,3 +21,6 @@ pub between-each : (lo hi e n : ℕ) (s : List ℕ) → Each (λ k. (lo ≤ getD
 between-each lo hi e n s w j p q =
     let k : e + (j - e) ≡ j = omega arith in
     subst (λ m. (lo ≤ getD s m 0) × (getD s m 0 ≤ hi)) k (each (λ k. (lo ≤ getD s (e + k) 0) × (getD s (e + k) 0 ≤ hi)) n w (j - e) (omega arith))
+
+pub between-wider : (lo hi lo' hi' i e : ℕ) (s : List ℕ) → Between lo hi i e s → lo' ≤ lo → hi ≤ hi' → Between lo' hi' i e s
+between-wider lo hi lo' hi' i e s w a b j p q = (omega (arith, w j p q .0), omega (arith, w j p q .1))

@@ -24,22 +24,32 @@ pub char-at : (b : ℕ) (s : List ℕ) → b < 0x80 → RowAt b s 3 b 0
 unfolding O.headBy
 char-at b s h = let r = char-row 0 b s in at-class C.Char7 b s 3 b 0 (char-class b h) (r .0) (λ d. r .1) (r .2)
 
+pub small-class-at : (b : ℕ) → 0x80 ≤ b → b < 0xc0 → classOf b ≡ C.Sinteger
+small-class-at b g h = let e : 0x80 + (b - 0x80) ≡ b = omega arith in rw e at (small-class (b - 0x80) (omega arith))
+
 pub small-at : (b : ℕ) (s : List ℕ) → 0x80 ≤ b → b < 0xc0 → RowAt b s 1 (b % 64) 0
 unfolding O.headBy
 small-at b s g h =
-    let e : 0x80 + (b - 0x80) ≡ b = omega arith in
     let r = sinteger-row 0 b s (g, h) in
-    at-class C.Sinteger b s 1 (b % 64) 0 (rw e at (small-class (b - 0x80) (omega arith))) (r .0) (λ d. r .1) (r .2)
+    at-class C.Sinteger b s 1 (b % 64) 0 (small-class-at b g h) (r .0) (λ d. r .1) (r .2)
 
 long-class : (n : ℕ) → n < 8 → classOf (0xe0 + n) ≡ C.Linteger
 unfolding classOf
 long-class n h = each (λ k. classOf (0xe0 + k) ≡ C.Linteger) 8 (refl, (refl, (refl, (refl, (refl, (refl, (refl, (refl, tt)))))))) n h
 
+pub long-class-at : (b : ℕ) → 0xe0 ≤ b → b < 0xe8 → classOf b ≡ C.Linteger
+long-class-at b g h = let e : 0xe0 + (b - 0xe0) ≡ b = omega arith in rw e at (long-class (b - 0xe0) (omega arith))
+
+pub marked-class-at : (b : ℕ) → 0xf0 ≤ b → b < 0xf8 → classOf b ≡ C.Sbitstr
+unfolding classOf
+marked-class-at b g h =
+    let e : 0xf0 + (b - 0xf0) ≡ b = omega arith in
+    rw e at (each (λ k. classOf (0xf0 + k) ≡ C.Sbitstr) 8 (refl, (refl, (refl, (refl, (refl, (refl, (refl, (refl, tt)))))))) (b - 0xf0) (omega arith))
+
 -- an LINTEGER whose bytes are there
 pub long-at : (b k v : ℕ) (s : List ℕ) → 0xe0 ≤ b → b ≤ 0xe7 → k ≡ O.following b → k ≤ length s → v ≡ twos 8 (O.integer (take k s)) → RowAt b s 1 v k
 long-at b k v s g h ek l ev =
-    let e : 0xe0 + (b - 0xe0) ≡ b = omega arith in
-    at-class C.Linteger b s 1 v k (rw e at (long-class (b - 0xe0) (omega arith))) (linteger-leaf k s) (λ d. linteger-head d b k s ek l) (linteger-is k v s ev)
+    at-class C.Linteger b s 1 v k (long-class-at b g (omega arith)) (linteger-leaf k s) (λ d. linteger-head d b k s ek l) (linteger-is k v s ev)
 
 xtra-at : (b : ℕ) (s : List ℕ) → 0xf8 ≤ b → b < 0xfc → RowAt b s 6 (b % 4) 0
 unfolding O.headBy

@@ -46,10 +46,6 @@ unfolding ifLt O.following O.integer twos
 lintegerAt s i b =
     ifLt (length s - (i + 1)) (O.following b) (L.Short i) (L.Found (twos 8 (O.integer (take (O.following b) (drop (i + 1) s)))) (i + 1 + O.following b))
 
--- where k is not 0, b is an LINTEGER's type-byte that asks for k bytes, and of `left` bytes they are there
-abbrev pub LongPast : ℕ → ℕ → ℕ → Type 0
-LongPast b left k = 0 < k → (0xe0 ≤ b) × (b ≤ 0xe7) × (k ≡ O.following b) × (k ≤ left)
-
 -- a container's contents, whatever it makes of them
 abbrev pub ContainedIs : ℕ → List ℕ → Contained → Type 0
 ContainedIs d s (Outside n) = (f : ℕ → ℕ → O.Head) → O.container d (O.sized d s f) ≡ O.stop (at 0 n)
@@ -111,3 +107,23 @@ HeadIs s (Short n w u) h = (bs : List Bool) × (h ≡ O.gives (one (bits bs)) u)
 HeadIs s (Long a n u) h = (h ≡ O.gives (one (bits (bitsFrom s a n))) u) × (a + bytesFor n ≡ u) × (u ≤ length s)
 HeadIs s (Text a n) h = (h ≡ O.gives (group struc (O.characters (O.contents s a n)) end) (a + n)) × (a + n ≤ length s)
 HeadIs s (Open w a n) h = (h ≡ O.opens (wrapOf w) a n) × (a + n ≤ length s)
+
+-- how a container closes by its type-byte C2, C5 or C3
+unfoldable pub shortWrap : ℕ → O.Wrap
+unfolding ifEq
+shortWrap b = ifEq b 0xc2 O.as-struc (ifEq b 0xc5 O.as-ustruc O.as-edt)
+
+-- the head of a container or a string whose size is the one byte n
+unfoldable pub shortHead : ℕ → List ℕ → ℕ → O.Head
+unfolding ifEq shortWrap O.characters O.contents
+shortHead b s n = ifEq b 0xc6 (O.gives (group struc (O.characters (O.contents s 1 n)) end) (1 + n)) (O.opens (shortWrap b) 1 n)
+
+pub record ShortAt (d b : ℕ) (s : List ℕ) (n : ℕ) : Type 0 where
+  pub head : O.headOf d b s ≡ shortHead b s n
+  pub within : 1 + n ≤ length s
+  pub shallow : d < 16
+  pub few : n ≤ 127
+
+-- where n is not 0, it is the size of such an object
+abbrev pub ShortIs : ℕ → ℕ → List ℕ → ℕ → Type 0
+ShortIs d b s n = 0 < n → ShortAt d b s n

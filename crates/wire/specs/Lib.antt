@@ -1,3 +1,4 @@
 pub mod Extents
 pub mod Heads
 pub mod Ranges
+pub mod WordsAt

@@ -4,6 +4,7 @@ ghost use mathlib.Core.Path.{_≡_};
 ghost use Prim.Native.Nat.{_+_, _*_, _%_, _^_, _≤_, _<_, _-_};
 ghost use lib.ListN.{length, take, drop};
 ghost use Rattle.format.specs.declared.Class.the-variants.{Linteger, Sbitstr, Lbitstr, String, Repeat};
+ghost use Rattle.format.specs.Classes.{classOf};
 ghost use Rattle.format.specs.Objects.{past, following, headBy, headOf, groupHead};
 ghost use Rattle.wire.specs.Heads.{CountedIs, ContainedIs, HeadIs, wrapOf, longBits};
 use super::integer::Leading;
@@ -201,11 +202,28 @@ fn repeat(depth: usize, s: &[u8]) -> Head
     }
 }
 
+// The class of a type-byte. Bit strings and repeats are told by their bytes alone, the others by the list of 256: the compiler
+// lays the list out anew each time that it is asked.
+fn told_class(b: u8) -> Class
+    ensures { λ r. ⌜ r ≡ classOf b ⌝ }
+{
+    if b == 0xc1 {
+        return Class::Lbitstr;
+    }
+    if b == 0xc4 {
+        return Class::Repeat;
+    }
+    if b / 8 == 30 {
+        return Class::Sbitstr;
+    }
+    class_of(b)
+}
+
 pub fn head_of(depth: usize, b: u8, s: &[u8]) -> Head
     requires { ⌜ length (now s) ≤ 65536 ⌝ }
     ensures { λ r. ⌜ HeadIs (now (s .entry)) r (headOf depth b (now (s .entry))) ⌝ }
 {
-    let class = class_of(b);
+    let class = told_class(b);
     match class {
         Class::Char7 => Head::Row(3, b as u64, 0),
         Class::Sinteger => Head::Row(1, (b % 64) as u64, 0),

@@ -1,12 +1,11 @@
 // LINTEGER values, and the INT at the front of an LBITSTR's or a REPEAT's contents.
 ghost use mathlib.Core.Path.{_≡_};
-ghost use Prim.Native.Nat.{_+_, _*_, _^_, _≤_, _<_};
+ghost use Prim.Native.Nat.{_+_, _-_, _*_, _/_, _^_, _≤_, _<_};
 ghost use lib.ListN.{length, take, drop};
-ghost use Rattle.format.specs.Numbers.{val, twos};
+ghost use Rattle.format.specs.Numbers.{val, signed, twos};
 ghost use Rattle.format.specs.Objects.{following, integer};
-ghost use Rattle.wire.specs.Heads.{LeadingIs, Unpadded, lintegerAt, LongPast};
-use format::Class;
-use format::class_of;
+ghost use Rattle.wire.specs.Heads.{LeadingIs, Unpadded, lintegerAt};
+ghost use Rattle.wire.specs.WordsAt.{wordAt};
 
 // The INT at the front of contents. Short: cut short at that place. Found: its value modulo 2^64, and the bytes up to its end.
 pub enum Leading {
@@ -25,33 +24,22 @@ fn wide(x: u8) -> u64
 pub fn following_of(b: u8) -> usize
     ensures { λ r. ⌜ (r ≡ following b) × (0 < r) × (r ≤ 8) ⌝ }
 {
-    let low = b % 8;
-    if low == 0 {
-        return 8;
-    }
-    low as usize
+    ((b as usize) + 7) % 8 + 1
 }
 
-// The data bytes of an LINTEGER by its type-byte b, where `left` bytes stand behind it; 0 where b is no LINTEGER's, or they are
-// not all there.
-pub fn long_past(b: u8, left: usize) -> usize
-    ensures { λ r. ⌜ LongPast b left r ⌝ }
+// The number that eight bytes from i on make, high byte first. In this order of sums the compiler reads them at once.
+pub fn word_at(s: &[u8], i: usize) -> u64
+    requires { ⌜ i + 8 ≤ length (now s) ⌝ }
+    ensures { λ r. ⌜ r ≡ wordAt i (now (s .entry)) ⌝ }
 {
-    if b < 0xe0 {
-        return 0;
-    }
-    if b > 0xe7 {
-        return 0;
-    }
-    let k = following_of(b);
-    if left < k {
-        return 0;
-    }
-    k
+    let two = wide(s[i]) * 256 + wide(s[i + 1]);
+    let four = (two * 256 + wide(s[i + 2])) * 256 + wide(s[i + 3]);
+    let six = (four * 256 + wide(s[i + 4])) * 256 + wide(s[i + 5]);
+    (six * 256 + wide(s[i + 6])) * 256 + wide(s[i + 7])
 }
 
-// The number that the first k bytes make, high byte first.
-pub fn number(s: &[u8], k: usize) -> u64
+// The number that the first k bytes make, high byte first, a byte at a time.
+fn number_by_bytes(s: &[u8], k: usize) -> u64
     requires { ⌜ (k ≤ length (now s)) × (k ≤ 8) ⌝ }
     ensures { λ r. ⌜ (r ≡ val (take k (now (s .entry)))) × (r < 256 ^ k) ⌝ }
 {
@@ -64,36 +52,59 @@ pub fn number(s: &[u8], k: usize) -> u64
     n
 }
 
-// Half of 256 to the power of k: the least number of k bytes that stands for a negative one.
-const HALVES: [u64; 8] = [
-    0x80,
-    0x8000,
-    0x800000,
-    0x80000000,
-    0x8000000000,
-    0x800000000000,
-    0x80000000000000,
-    0x8000000000000000,
-];
+// The number that the first k bytes make, high byte first: from one word where eight bytes are there.
+pub fn number(s: &[u8], k: usize) -> u64
+    requires { ⌜ (0 < k) × (k ≤ length (now s)) × (k ≤ 8) ⌝ }
+    ensures { λ r. ⌜ (r ≡ val (take k (now (s .entry)))) × (r < 256 ^ k) ⌝ }
+{
+    if s.len() >= 8 {
+        return word_at(s, 0) >> (64 - 8 * k);
+    }
+    number_by_bytes(s, k)
+}
 
+// Half of 256 to the power of k: the least number of k bytes that stands for a negative one.
 fn half(k: usize) -> u64
     requires { ⌜ (0 < k) × (k ≤ 8) ⌝ }
     ensures { λ r. ⌜ (2 * r ≡ 256 ^ k) × (r ≤ 2 ^ 63) ⌝ }
 {
-    HALVES[k - 1]
+    1u64 << (8 * k - 1)
 }
 
-// The whole number that the first k bytes stand for in two's complement, modulo 2^64.
-pub fn integer_of(s: &[u8], k: usize) -> u64
+// The whole number that the high k bytes of a word stand for in two's complement, modulo 2^64.
+fn signed_high(w: u64, k: usize) -> u64
+    requires { ⌜ (0 < k) × (k ≤ 8) ⌝ }
+    ensures { λ r. ⌜ r ≡ twos 8 (signed k (w / 2 ^ (64 - 8 * k))) ⌝ }
+{
+    let low = 64 - 8 * k;
+    if w < 0x8000000000000000 {
+        return w >> low;
+    }
+    0xffffffffffffffff - ((0xffffffffffffffff - w) >> low)
+}
+
+// The same of the first k bytes, a byte at a time.
+fn integer_by_bytes(s: &[u8], k: usize) -> u64
     requires { ⌜ (0 < k) × (k ≤ length (now s)) × (k ≤ 8) ⌝ }
     ensures { λ r. ⌜ r ≡ twos 8 (integer (take k (now (s .entry)))) ⌝ }
 {
-    let n = number(s, k);
+    let n = number_by_bytes(s, k);
     let h = half(k);
     if n < h {
         return n;
     }
     n + (0x8000000000000000 - h) * 2
+}
+
+// The same, from one word where eight bytes are there.
+pub fn integer_of(s: &[u8], k: usize) -> u64
+    requires { ⌜ (0 < k) × (k ≤ length (now s)) × (k ≤ 8) ⌝ }
+    ensures { λ r. ⌜ r ≡ twos 8 (integer (take k (now (s .entry)))) ⌝ }
+{
+    if s.len() >= 8 {
+        return signed_high(word_at(s, 0), k);
+    }
+    integer_by_bytes(s, k)
 }
 
 // Where the padding at the front ends.
@@ -132,10 +143,17 @@ pub fn leading_of(s: &[u8]) -> Leading
         return Leading::Absent;
     }
     let b = s[i];
-    let class = class_of(b);
-    match class {
-        Class::Sinteger => Leading::Found((b % 64) as u64, i + 1),
-        Class::Linteger => linteger_at(s, i, b),
-        _ => Leading::Absent,
+    if b < 0x80 {
+        return Leading::Absent;
     }
+    if b < 0xc0 {
+        return Leading::Found((b % 64) as u64, i + 1);
+    }
+    if b < 0xe0 {
+        return Leading::Absent;
+    }
+    if b < 0xe8 {
+        return linteger_at(s, i, b);
+    }
+    Leading::Absent
 }

@@ -3,4 +3,6 @@ pub mod head;
 pub mod integer;
 pub mod late;
 pub mod padding;
+pub mod short;
 pub mod size;
+pub mod span;

@@ -3,19 +3,7 @@ ghost use mathlib.Core.Path.{_≡_};
 ghost use Prim.Native.Nat.{_+_, _≤_, _<_};
 ghost use lib.ListN.{length};
 ghost use Rattle.wire.specs.Ranges.{Between};
-
-fn wide(x: u8) -> usize
-    ensures { λ r. ⌜ (r ≡ x) × (r < 256) ⌝ }
-{
-    x as usize
-}
-
-fn four(s: &[u8], e: usize) -> usize
-    requires { ⌜ e + 4 ≤ length (now s) ⌝ }
-    ensures { λ r. ⌜ (r ≤ 1020) × (r ≡ 1020 → Between 0xff 0xff e (e + 4) (now (s .entry))) ⌝ }
-{
-    wide(s[e]) + wide(s[e + 1]) + wide(s[e + 2]) + wide(s[e + 3])
-}
+use super::integer::word_at;
 
 // Where the padding from i on is less than eight bytes, or ends.
 fn eights(s: &[u8], i: usize) -> usize
@@ -24,7 +12,7 @@ fn eights(s: &[u8], i: usize) -> usize
 {
     let mut e = i;
     while s.len() - e >= 8 {
-        if four(s, e) + four(s, e + 4) != 2040 {
+        if word_at(s, e) != 0xffffffffffffffff {
             return e;
         }
         e += 8;

@@ -9,9 +9,10 @@ use mathlib.Core.List.{List, [], _∷_, _++_}
 use lib.ListN.{length, take, drop, getD, length-drop}
 use lib.Seq.{take-append-le, take-append-add, take-all, drop-at, drop-drop, drop-length}
 use lib.Pow.{pow-pos, pow-add}
+use Rattle.format.specs.Numbers.{be}
 use Rattle.format.specs.Bits.{bit, num, bitsOf, spread, adjusted, packed}
 use Rattle.format.proofs.BitLaws.{bit-isOne, bits-length, adjusted-lt}
-use Rattle.format.proofs.Marker.{num-true}
+use Rattle.format.proofs.Marker.{num-true, pow-bytes}
 
 pub bit-lt : (b : Bool) → bit b < 2
 unfolding bit
@@ -131,8 +132,33 @@ marked-word n bs e h =
     let q : n + (64 - n) ≡ 64 = omega arith in
     num-true bs ∙ ap₂ _+_ (ap (λ z. 2 ^ z) e) (ap (λ z. adjusted z bs) e ∙ sym (ap (λ z. adjusted z bs / 2 ^ (64 - n)) (sym q) ∙ adjusted-div n (64 - n) bs))
 
--- a byte of a word
-pub byte-of-word : (j : ℕ) (bs : List Bool) → j < 8 → adjusted 64 bs / 2 ^ (56 - 8 * j) % 256 ≡ adjusted 8 (drop (8 * j) bs)
-byte-of-word j bs h =
-    let q : 64 ≡ 8 * j + 8 + (56 - 8 * j) = omega arith in
-    ap (λ z. adjusted z bs / 2 ^ (56 - 8 * j) % 256) q ∙ ap (λ z. z % 256) (adjusted-div (8 * j + 8) (56 - 8 * j) bs) ∙ adjusted-mod (8 * j) 8 bs
+-- ---- a word's bytes
+-- the first ones, and those behind them
+pub packed-parts : (w j k : ℕ) (bs : List Bool) → packed w (j + k) bs ≡ packed w j bs ++ packed w k (drop (w * j) bs)
+unfolding packed
+packed-parts w zero k bs =
+    let e : 0 + k ≡ k = omega arith in
+    let z : w * 0 ≡ 0 = omega arith in
+    ap (λ n. packed w n bs) e ∙ ap (λ n. packed w k (drop n bs)) (sym z)
+packed-parts w (suc j) k bs =
+    let e : suc j + k ≡ suc (j + k) = omega arith in
+    let z : w + w * j ≡ w * suc j = sym (native.Mathlib.Nat.mul-suc w j ∙ omega arith) in
+    ap (λ n. packed w n bs) e
+    ∙ ap (λ l. adjusted w bs ∷ l) (packed-parts w j k (drop w bs) ∙ ap (λ l. packed w j (drop w bs) ++ packed w k l) (drop-drop (w * j) w bs ∙ ap (λ n. drop n bs) z))
+
+pub packed-be : (k : ℕ) (bs : List Bool) → packed 8 k bs ≡ be k (adjusted (8 * k) bs)
+unfolding packed be
+packed-be zero bs = refl
+packed-be (suc k) bs =
+    let e : 8 + 8 * k ≡ 8 * suc k = omega arith in
+    let a : adjusted (8 * suc k) bs / 256 ^ k ≡ adjusted 8 bs = ap₂ (λ n m. adjusted n bs / m) (sym e) (sym (pow-bytes k)) ∙ adjusted-div 8 (8 * k) bs in
+    let b : adjusted (8 * suc k) bs % 256 ^ k ≡ adjusted (8 * k) (drop 8 bs) = ap₂ (λ n m. adjusted n bs % m) (sym e) (sym (pow-bytes k)) ∙ adjusted-mod 8 (8 * k) bs in
+    sym (ap₂ (λ x y. x ∷ be k y) a b ∙ ap (λ l. adjusted 8 bs ∷ l) (sym (packed-be k (drop 8 bs))))
+
+-- the first k bytes of a word
+pub packed-high : (k : ℕ) (bs : List Bool) → k ≤ 8 → packed 8 k bs ≡ be k (adjusted 64 bs / 2 ^ (64 - 8 * k) % 256 ^ k)
+packed-high k bs h =
+    let q : 8 * k + (64 - 8 * k) ≡ 64 = omega arith in
+    let d : adjusted 64 bs / 2 ^ (64 - 8 * k) ≡ adjusted (8 * k) bs = ap (λ n. adjusted n bs / 2 ^ (64 - 8 * k)) (sym q) ∙ adjusted-div (8 * k) (64 - 8 * k) bs in
+    let l : adjusted (8 * k) bs < 256 ^ k = rw (← pow-bytes k) (adjusted-lt (8 * k) bs) in
+    packed-be k bs ∙ ap (be k) (sym (ap (λ x. x % 256 ^ k) d ∙ mod-eq-of-lt l))

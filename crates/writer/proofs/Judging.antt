@@ -9,8 +9,8 @@ use Rattle.format.specs.Items.{Group, struc, edt, Items, end, leaf, group, edtR
 use Rattle.format.specs.Tables.{count, rows, leafWords, dataWords, rowKind}
 use Rattle.format.proofs.Choices.{split, split-eq, true-eq, eq-true}
 use Rattle.format.proofs.TableLaws.{leaf-kind}
-use Rattle.writer.specs.Rows.{kindAt, aAt, bAt, Stands, lands, edtRows, groupOk, dataTo, rowOk}
-use Rattle.writer.proofs.RowLaws.{lands-end, lands-out, lands-leaf, lands-short, lands-group, group-missed, group-struc, group-edt, group-other, data-suc, data-none, row-group}
+use Rattle.writer.specs.Rows.{kindAt, aAt, bAt, Stands, lands, edtRows, kindOk, groupOk, dataTo, rowOk}
+use Rattle.writer.proofs.RowLaws.{lands-end, lands-out, lands-leaf, lands-short, lands-group, group-missed, group-landed, kind-struc, kind-edt, kind-other, data-suc, data-none, row-group}
 use Rattle.writer.proofs.LeafRows.{clash, LeafFound, leaf-found, leaf-right}
 use Rattle.writer.proofs.KindLaws.{edt-is}
 use Rattle.writer.proofs.Standing.{group-kind, leaf-parts, group-parts, join-leaf, join-group, none-stands}
@@ -19,12 +19,28 @@ abbrev pub AllOk : List ℕ → ℕ → ℕ → ℕ → Type 0
 AllOk w R p e = (i : ℕ) → p ≤ i → i < e → rowOk w R i ≡ true
 
 -- ---- a group's row
+-- a row with the kind of a group, and its elements if they stand up to e
+pub record KindOk (w : List ℕ) (p e : ℕ) : Type 0 where
+  pub kind : Group
+  pub is : kindAt w p ≡ rowKind kind
+  pub rule : (c : Items) → edtRows w (p + 1) e ≡ edtRule c → properGroup kind c ≡ true
+
+pub kind-true : (w : List ℕ) (p e : ℕ) → kindOk w p e ≡ true → KindOk w p e
+unfolding rowKind properGroup
+kind-true w p e t =
+    split-eq (kindAt w p) 7 (λ k. record { kind = struc; is = k; rule = λ c q. refl })
+    (λ n. split-eq (kindAt w p) 8 (λ k. record { kind = edt; is = k; rule = λ c q. sym q ∙ sym (kind-edt w p e k) ∙ t })
+    (λ m. clash (kindOk w p e) t (kind-other w p e n m)))
+
+pub kind-right : (w : List ℕ) (p e : ℕ) (g : Group) (c : Items) → kindAt w p ≡ rowKind g → edtRows w (p + 1) e ≡ edtRule c → properGroup g c ≡ true → kindOk w p e ≡ true
+unfolding rowKind properGroup
+kind-right w p e struc c k q r = kind-struc w p e k
+kind-right w p e edt c k q r = kind-edt w p e k ∙ q ∙ r
+
 -- a row from 7 up that is in order
 record GroupOk (w : List ℕ) (p : ℕ) : Type 0 where
-  kind : Group
-  is : kindAt w p ≡ rowKind kind
+  ok : KindOk w p (p + 1 + bAt w p)
   landed : lands w (aAt w p) (p + 1) (p + 1 + bAt w p) ≡ true
-  rule : (c : Items) → edtRows w (p + 1) (p + 1 + bAt w p) ≡ edtRule c → properGroup kind c ≡ true
 
 land-either : (w : List ℕ) (n p e : ℕ) {X : Type 0} → (lands w n p e ≡ true → X) → (lands w n p e ≡ false → X) → X
 land-either w n p e {X} f g = go (lands w n p e) f g
@@ -34,19 +50,10 @@ land-either w n p e {X} f g = go (lands w n p e) f g
     go false f g = g refl
 
 group-true : (w : List ℕ) (R p : ℕ) → bAt w p ≤ R - (p + 1) → groupOk w R p ≡ true → GroupOk w p
-unfolding rowKind properGroup
 group-true w R p s t =
     land-either w (aAt w p) (p + 1) (p + 1 + bAt w p)
-    (λ l. split-eq (kindAt w p) 7 (λ k. record { kind = struc; is = k; landed = l; rule = λ c q. refl })
-    (λ n. split-eq (kindAt w p) 8 (λ k. record { kind = edt; is = k; landed = l; rule = λ c q. sym q ∙ sym (group-edt w R p s l k) ∙ t })
-    (λ m. clash (groupOk w R p) t (group-other w R p s l n m))))
+    (λ l. record { ok = kind-true w p (p + 1 + bAt w p) (sym (group-landed w R p s l) ∙ t); landed = l })
     (λ l. clash (groupOk w R p) t (group-missed w R p l))
-
-group-right : (w : List ℕ) (R p : ℕ) (g : Group) (c : Items) → kindAt w p ≡ rowKind g → bAt w p ≤ R - (p + 1) → lands w (aAt w p) (p + 1) (p + 1 + bAt w p) ≡ true →
-    edtRows w (p + 1) (p + 1 + bAt w p) ≡ edtRule c → properGroup g c ≡ true → groupOk w R p ≡ true
-unfolding rowKind properGroup
-group-right w R p struc c k s l q r = group-struc w R p s l k
-group-right w R p edt c k s l q r = group-edt w R p s l k ∙ q ∙ r
 
 -- ---- data words before a row
 data-mono : (w : List ℕ) (k p : ℕ) → dataTo w p ≤ dataTo w (p + k)
@@ -90,20 +97,20 @@ module _ (w : List ℕ) (R : ℕ) (few : R ≤ 16384) (little : getD w 3 0 ≤ 1
   unfolding count dataWords
   found-group n p e h g f a =
       let c = f .items in
-      let k = g .is in
-      let d : dataTo w (p + 1) ≡ dataTo w p = data-suc w p ∙ ap (λ z. dataTo w p + z) (data-none w p (λ z. omega (arith, group-kind (g .kind)))) ∙ omega arith in
+      let k = g .ok .is in
+      let d : dataTo w (p + 1) ≡ dataTo w p = data-suc w p ∙ ap (λ z. dataTo w p + z) (data-none w p (λ z. omega (arith, group-kind (g .ok .kind)))) ∙ omega arith in
       let b : bAt w p ≡ rows c = omega (arith, f .stands .number) in
       let q : p + 1 + bAt w p ≡ p + 1 + rows c = omega arith in
       let m : dataTo w (p + 1 + bAt w p) ≡ dataTo w p + length (dataWords c) = omega (arith, f .many) in
       let s : Stands w (dataTo w p) (p + 1) (p + 1 + rows c) c = rw (d, q) at (f .stands) in
       let t : Stands w (dataTo w p + length (dataWords c)) (p + 1 + rows c) e (a .items) = rw q at (rw m at (a .stands)) in
       record {
-        items = group (g .kind) c (a .items);
-        stands = join-group w (dataTo w p) p e (g .kind) c (a .items) (record {
+        items = group (g .ok .kind) c (a .items);
+        stands = join-group w (dataTo w p) p e (g .ok .kind) c (a .items) (record {
           kind = k;
           first = sym (f .number);
           second = b;
-          good = g .rule c (edt-is w _ (p + 1) (p + 1 + bAt w p) c (f .stands));
+          good = g .ok .rule c (edt-is w _ (p + 1) (p + 1 + bAt w p) c (f .stands));
           inside = s;
           after = t;
         });
@@ -156,7 +163,7 @@ module _ (w : List ℕ) (R : ℕ) (few : R ≤ 16384) (little : getD w 3 0 ≤ 1
       let k = leaf-parts w d p e x xs s in
       let n = length-append (leafWords x) (dataWords xs) in
       let h : p < e = omega (arith, s .number) in
-      let r = leaf-right w d room little (omega arith) R p x (k .0) q (omega arith) in
+      let r = leaf-right w d room little (omega arith) R p x (k .0) (omega (arith, k .0 .kind, leaf-kind x)) q (omega arith) in
       let f : d + length (leafWords x) ≡ dataTo w (p + 1) = sym (data-suc w p ∙ ap₂ _+_ (sym q) (r .1)) in
       let j = complete (d + length (leafWords x)) (p + 1) e xs (k .1) f l (omega arith) in
       let z : suc (count xs) - 1 ≡ count xs = omega arith in
@@ -182,7 +189,8 @@ module _ (w : List ℕ) (R : ℕ) (few : R ≤ 16384) (little : getD w 3 0 ≤ 1
       record {
         landed = lands-group w e (suc (count xs)) p (omega arith) h (omega arith) (omega arith) ∙ rw (z, ← pb) (o .landed);
         each = first-ok p e
-            (row-group w R p (omega arith) ∙ group-right w R p g c kk (omega arith) (rw (← pb, k .first) (j .landed)) (rw (← pb) (edt-is w d (p + 1) (p + 1 + rows c) c (k .inside))) (k .good))
+            (row-group w R p (omega arith) ∙ group-landed w R p (omega arith) (rw (← pb, k .first) (j .landed))
+            ∙ kind-right w p (p + 1 + bAt w p) g c kk (rw (← pb) (edt-is w d (p + 1) (p + 1 + rows c) c (k .inside))) (k .good))
             (joined-ok (p + 1) (p + 1 + rows c) e (j .each) (o .each));
         many = o .many ∙ omega arith;
       }

@@ -6,7 +6,7 @@ use Prim.Native.Nat.{ℕ, suc, _+_, _-_, _*_, _/_, _%_, _^_, _<_, _≤_}
 use native.Mathlib.Omega.{arith}
 use native.Mathlib.Nat.{mod-eq-of-lt}
 use lib.ListN.{length, take, drop, getD, length-append, List·getD-append}
-use lib.Seq.{drop-drop, getD-drop}
+use lib.Seq.{getD-drop}
 use lib.Pow.{pow-mono, shl-exact}
 use lib.IntN.{pos}
 use lib.Signed.{mag}
@@ -17,13 +17,13 @@ use Rattle.format.specs.Items.{Leaf, int, bits, char, bool, empty, xtra, leafKi
 use Rattle.format.specs.Tables.{leafA, leafB, leafWords, claimedLeaf}
 use Rattle.format.specs.Normal.{normalSize, withSize, normalInt, sbitstr, normalBits, normalLeaf}
 use Rattle.format.proofs.Choices.{ifLt-yes, ifLt-no, ifEq-yes, ifEq-no, split, true-lt}
-use Rattle.format.proofs.Digits.{be-length, width-fits, width-least, pow-le, mag-signed}
+use Rattle.format.proofs.Digits.{be-length, width-fits, width-least, mag-signed}
 use Rattle.format.proofs.BitLaws.{packed-length, words-enough}
-use Rattle.format.proofs.Marker.{marker-ge, marker-lt, pow-bytes}
+use Rattle.format.proofs.Marker.{marker-ge, marker-lt}
 use Rattle.writer.specs.Rows.{kindAt, aAt, bAt, dataOf, LeafRow, leafAt, LeafAt}
 use Rattle.writer.specs.Forms.{longSize, bitsLength, marker, leafBytes, counted, plainByte}
-use Rattle.writer.proofs.NumberLaws.{int-length-small, int-length-large}
-use Rattle.writer.proofs.BitRows.{bit-lt, packed-at, marked-word, byte-of-word}
+use Rattle.writer.proofs.NumberLaws.{width-log, int-length-small, int-length-large}
+use Rattle.writer.proofs.BitRows.{bit-lt, packed-at, marked-word}
 
 -- ---- the leaf of a row by its kind
 pub int-at : (w : List ℕ) (p : ℕ) → kindAt w p ≡ 1 → leafAt w p ≡ int (signed 8 (bAt w p))
@@ -97,15 +97,6 @@ marked-lt w p r l =
     let m = r .number in
     rw (r .is) (omega (arith, marker-lt (r .stream), pow-mono {i = suc (length (r .stream))} {j = 64} (omega arith)))
 
-width-marker : (n v : ℕ) → 2 ^ n ≤ v → v < 2 ^ suc n → width v ≡ 1 + n / 8
-width-marker n v g l =
-    let q : ℕ = n / 8 in
-    let up : v < 256 ^ suc q = rw (← pow-bytes (suc q)) (omega (arith, pow-mono {i = suc n} {j = 8 * suc q} (omega arith))) in
-    let low : 256 ^ q ≤ v = rw (← pow-bytes q) (omega (arith, pow-mono {i = 8 * q} {j = n} (omega arith))) in
-    let a : width v ≤ suc q = width-least v (suc q) (omega arith) up in
-    let b : q < width v = split q (width v) (λ h. h) (λ h. absurd (omega (arith, width-fits v, pow-le {i = width v} {j = q} h))) in
-    omega arith
-
 short-form : (w : List ℕ) (p : ℕ) (r : BitsRow w p) → aAt w p < 64 → normalLeaf (leafAt w p) ≡ sbitstr (marker (leafAt w p))
 unfolding marker normalLeaf normalBits
 short-form w p r l = let m = r .number in rw (r .is) (ifLt-yes (length (r .stream)) 64 _ _ (omega arith))
@@ -127,18 +118,6 @@ pos-is n h = ifLt-yes (2 * n) (256 ^ 8) _ _ (omega arith)
 pub bytes-length : (w : List ℕ) (p : ℕ) (r : BitsRow w p) → length (leafBytes (leafAt w p)) ≡ bytesFor (aAt w p)
 unfolding leafBytes
 bytes-length w p r = rw (r .is, r .number) (packed-length 8 (bytesFor (length (r .stream))) (r .stream))
-
-pub byte-at : (w : List ℕ) (p : ℕ) (r : BitsRow w p) (i : ℕ) → i < bytesFor (aAt w p) →
-    getD w (3 * getD w 0 0 + 4 + bAt w p + i / 8) 0 / 2 ^ (56 - 8 * (i % 8)) % 256 ≡ getD (leafBytes (leafAt w p)) i 0
-unfolding leafBytes bytesFor wordsFor
-byte-at w p r i h =
-    let bs = r .stream in
-    let m = r .number in
-    let e : 64 * (i / 8) + 8 * (i % 8) ≡ 8 * i = omega arith in
-    ap (λ z. z / 2 ^ (56 - 8 * (i % 8)) % 256) (word-at w p r (i / 8) (omega arith))
-    ∙ byte-of-word (i % 8) (drop (64 * (i / 8)) bs) (omega arith)
-    ∙ ap (adjusted 8) (drop-drop (8 * (i % 8)) (64 * (i / 8)) bs ∙ ap (λ z. drop z bs) e)
-    ∙ rw (r .is) (sym (packed-at 8 (bytesFor (length bs)) bs i (omega arith)))
 
 pub counted-is : (w : List ℕ) (p : ℕ) (r : BitsRow w p) → counted (leafAt w p) ≡ normalInt (signed 8 (aAt w p)) ++ leafBytes (leafAt w p)
 unfolding counted leafBytes
@@ -172,7 +151,7 @@ bits-length-is w p r =
     (λ l.
     let v : ℕ = marker (leafAt w p) in
     let q : v ≡ num (true ∷ r .stream) = unfold marker in ap marker (r .is) in
-    let k : width v ≡ 1 + length (r .stream) / 8 = rw q (width-marker (length (r .stream)) (num (true ∷ r .stream)) (marker-ge (r .stream)) (marker-lt (r .stream))) in
+    let k : width v ≡ 1 + length (r .stream) / 8 = rw q (width-log (length (r .stream)) (num (true ∷ r .stream)) (marker-ge (r .stream)) (marker-lt (r .stream))) in
     ifLt-yes (aAt w p) 64 _ _ l ∙ sym (short-length w p r v (width v) l refl refl ∙ omega arith))
     (λ g.
     let c : longSize (aAt w p) ≡ length (counted (leafAt w p)) = sym (counted-length w p r ∙ rw (pos-is (aAt w p) (omega arith)) refl) in
@@ -199,10 +178,6 @@ plain-code w d p empty r n m = let b = r .b in let k = r .kind in ((λ z. absurd
 plain-code w d p (xtra x) r n m = let b = r .b in let k = r .kind in ((λ z. absurd (omega arith)), (λ z. omega (arith, true-lt x 4 (r .good))))
 
 -- ---- where the code reads
-pub byte-in : (w : List ℕ) (p : ℕ) (r : BitsRow w p) (i : ℕ) → i < bytesFor (aAt w p) → 3 * getD w 0 0 + 4 + bAt w p + i / 8 < length w
-unfolding bytesFor wordsFor
-byte-in w p r i h = let m = r .number in let s = r .stored in omega arith
-
 pub first-in : (w : List ℕ) (p : ℕ) (r : BitsRow w p) → 0 < aAt w p → 3 * getD w 0 0 + 4 + bAt w p < length w
 unfolding wordsFor
 first-in w p r h = let m = r .number in let s = r .stored in omega arith

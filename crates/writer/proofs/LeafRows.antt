@@ -25,7 +25,7 @@ clash b t f = let z : _≡_ {A = ℕ} 0 1 = cc in absurd (omega arith)
 
 -- ---- rows with one number
 -- the leaf of such a row, whose words do not depend on the data words before it
-record Plain (k a b : ℕ) : Type 0 where
+pub record Plain (k a b : ℕ) : Type 0 where
   item : Leaf
   kind : k ≡ leafKind item
   none : a ≡ leafA item
@@ -33,7 +33,7 @@ record Plain (k a b : ℕ) : Type 0 where
   good : properLeaf item ≡ true
   nothing : leafWords item ≡ []
 
-plain-leaf : (k a b : ℕ) → b < 2 ^ 64 → plainOk k a b ≡ true → Plain k a b
+pub plain-leaf : (k a b : ℕ) → b < 2 ^ 64 → plainOk k a b ≡ true → Plain k a b
 unfolding codes leafKind leafA leafB leafWords properLeaf
 plain-leaf k a b l t =
     split-eq a 0
@@ -59,7 +59,7 @@ pub record LeafFound (w : List ℕ) (d p : ℕ) : Type 0 where
 
 -- the room that a header in order leaves for the data words behind the first d
 module _ (w : List ℕ) (d : ℕ) (room : 3 * getD w 0 0 + 4 + getD w 3 0 ≤ length w) (little : getD w 3 0 ≤ 16384) (few : d ≤ getD w 3 0) where
-  plain-found : (p : ℕ) → 3 * p + 7 ≤ length w → (kindAt w p ≡ 2 → ⊥) → Plain (kindAt w p) (aAt w p) (bAt w p) → LeafFound w d p
+  pub plain-found : (p : ℕ) → 3 * p + 7 ≤ length w → (kindAt w p ≡ 2 → ⊥) → Plain (kindAt w p) (aAt w p) (bAt w p) → LeafFound w d p
   plain-found p h k q =
       let n : length (leafWords (q .item)) ≡ 0 = ap length (q .nothing) in
       let z : d + 0 ≡ d = omega arith in
@@ -132,7 +132,7 @@ module _ (w : List ℕ) (d : ℕ) (room : 3 * getD w 0 0 + 4 + getD w 3 0 ≤ le
         rw (words-are, words-length)
         (sym (ap (λ z. wordsAt n ++ z) (sym (drop-drop (wordsFor n) d (dataOf w))) ∙ take-append-drop (wordsFor n) (drop d (dataOf w))))
 
-  bits-found : (p : ℕ) → 3 * p + 7 ≤ length w → kindAt w p ≡ 2 → bitsOk w d (aAt w p) (bAt w p) ≡ true → ((i : ℕ) → getD w i 0 < 2 ^ 64) → LeafFound w d p
+  pub bits-found : (p : ℕ) → 3 * p + 7 ≤ length w → kindAt w p ≡ 2 → bitsOk w d (aAt w p) (bAt w p) ≡ true → ((i : ℕ) → getD w i 0 < 2 ^ 64) → LeafFound w d p
   unfolding leafKind leafA leafB properLeaf
   bits-found p h k t bound =
       let q = bits-true (aAt w p) (bAt w p) t in
@@ -160,16 +160,25 @@ module _ (w : List ℕ) (d : ℕ) (room : 3 * getD w 0 0 + 4 + getD w 3 0 ≤ le
       (λ k. plain-found p h k (plain-leaf (kindAt w p) (aAt w p) (bAt w p) (bound (3 * p + 6)) (sym (row-plain w R p l k) ∙ t)))
 
   -- ---- and the other way round
-  plain-right : (R p : ℕ) (l : Leaf) → LeafRow w d p l → kindAt w p < 7 → (kindAt w p ≡ 2 → ⊥) → leafA l ≡ 0 → leafB d l < codes (leafKind l) → rowOk w R p ≡ true
-  plain-right R p l r h k a b =
-      row-plain w R p h k ∙ plain-codes _ _ _ (r .a ∙ a) ∙ rw (r .b, r .kind) (lt-true _ _ b)
+  pub record LeafOk (p : ℕ) (l : Leaf) : Type 0 where
+    pub bits : kindAt w p ≡ 2 → bitsOk w d (aAt w p) (bAt w p) ≡ true
+    pub plain : (kindAt w p ≡ 2 → ⊥) → plainOk (kindAt w p) (aAt w p) (bAt w p) ≡ true
+    pub takes : dataAt w p ≡ length (leafWords l)
 
-  bits-right : (R p : ℕ) (bs : List Bool) → LeafRow w d p (bits bs) → d ≡ dataTo w p → d + wordsFor (length bs) ≤ getD w 3 0 → rowOk w R p ≡ true
+  plain-ok : (p : ℕ) (l : Leaf) → LeafRow w d p l → (leafKind l ≡ 2 → ⊥) → leafA l ≡ 0 → leafB d l < codes (leafKind l) → leafWords l ≡ [] → LeafOk p l
+  plain-ok p l r k a b n =
+      let kk = r .kind in
+      record {
+        bits = λ z. absurd (k (sym kk ∙ z));
+        plain = λ z. plain-codes _ _ _ (r .a ∙ a) ∙ rw (r .b, r .kind) (lt-true _ _ b);
+        takes = data-none w p (λ z. k (sym kk ∙ z)) ∙ sym (ap length n);
+      }
+
+  bits-ok : (p : ℕ) (bs : List Bool) → LeafRow w d p (bits bs) → d + wordsFor (length bs) ≤ getD w 3 0 → bitsOk w d (aAt w p) (bAt w p) ≡ true
   unfolding leafKind leafA leafB leafWords
-  bits-right R p bs r e m =
+  bits-ok p bs r m =
       let n = length bs in
-      row-bits w R p (r .kind)
-      ∙ rw (← e, r .a)
+      rw (r .a)
       (bits-spare w d n (bAt w p) (r .b) (omega (arith, words-enough n)) ∙ eq-true (lastWord w d n % 2 ^ (64 * wordsFor n - n)) 0
       (split 0 (wordsFor n)
       (λ h.
@@ -179,18 +188,19 @@ module _ (w : List ℕ) (d : ℕ) (room : 3 * getD w 0 0 + 4 + getD w 3 0 ≤ le
       rw c (last-spare (wordsFor n) n bs refl (words-enough n) (unfold wordsFor in omega arith)))
       (λ g. let z : 64 * wordsFor n - n ≡ 0 = omega arith in rw z (mod-one _))))
 
-  pub leaf-right : (R p : ℕ) (l : Leaf) → LeafRow w d p l → d ≡ dataTo w p → d + length (leafWords l) ≤ getD w 3 0 →
-      (rowOk w R p ≡ true) × (dataAt w p ≡ length (leafWords l))
+  pub leaf-ok : (p : ℕ) (l : Leaf) → LeafRow w d p l → d + length (leafWords l) ≤ getD w 3 0 → LeafOk p l
   unfolding leafKind leafA leafB leafWords properLeaf codes
-  leaf-right R p (int z) r e m =
-      (plain-right R p (int z) r (omega (arith, r .kind)) (λ k. omega (arith, r .kind)) refl (twos-lt 8 z), data-none w p (λ k. omega (arith, r .kind)))
-  leaf-right R p (bits bs) r e m =
-      (bits-right R p bs r e (omega (arith, packed-length 64 (wordsFor (length bs)) bs)), data-bits w p (r .kind) ∙ rw (r .a) (sym (packed-length 64 (wordsFor (length bs)) bs)))
-  leaf-right R p (char c) r e m =
-      (plain-right R p (char c) r (omega (arith, r .kind)) (λ k. omega (arith, r .kind)) refl (true-lt c 128 (r .good)), data-none w p (λ k. omega (arith, r .kind)))
-  leaf-right R p (bool b) r e m =
-      (plain-right R p (bool b) r (omega (arith, r .kind)) (λ k. omega (arith, r .kind)) refl (bit-lt b), data-none w p (λ k. omega (arith, r .kind)))
-  leaf-right R p empty r e m =
-      (plain-right R p empty r (omega (arith, r .kind)) (λ k. omega (arith, r .kind)) refl (omega arith), data-none w p (λ k. omega (arith, r .kind)))
-  leaf-right R p (xtra n) r e m =
-      (plain-right R p (xtra n) r (omega (arith, r .kind)) (λ k. omega (arith, r .kind)) refl (true-lt n 4 (r .good)), data-none w p (λ k. omega (arith, r .kind)))
+  leaf-ok p (int z) r m = plain-ok p (int z) r (λ k. omega arith) refl (twos-lt 8 z) refl
+  leaf-ok p (bits bs) r m =
+      let n = packed-length 64 (wordsFor (length bs)) bs in
+      record { bits = λ k. bits-ok p bs r (omega arith); plain = λ k. absurd (k (r .kind)); takes = data-bits w p (r .kind) ∙ rw (r .a) (sym n) }
+  leaf-ok p (char c) r m = plain-ok p (char c) r (λ k. omega arith) refl (true-lt c 128 (r .good)) refl
+  leaf-ok p (bool b) r m = plain-ok p (bool b) r (λ k. omega arith) refl (bit-lt b) refl
+  leaf-ok p empty r m = plain-ok p empty r (λ k. omega arith) refl (omega arith) refl
+  leaf-ok p (xtra n) r m = plain-ok p (xtra n) r (λ k. omega arith) refl (true-lt n 4 (r .good)) refl
+
+  pub leaf-right : (R p : ℕ) (l : Leaf) → LeafRow w d p l → kindAt w p < 7 → d ≡ dataTo w p → d + length (leafWords l) ≤ getD w 3 0 →
+      (rowOk w R p ≡ true) × (dataAt w p ≡ length (leafWords l))
+  leaf-right R p l r h e m =
+      let o = leaf-ok p l r m in
+      (split-eq (kindAt w p) 2 (λ k. row-bits w R p k ∙ rw (← e) (o .bits k)) (λ k. row-plain w R p h k ∙ o .plain k), o .takes)

@@ -10,8 +10,13 @@ pub mod KindLaws
 pub mod Judging
 pub mod Whole
 pub mod LeafForms
+pub mod WordLaws
 pub mod RunLaws
+pub mod Passing
+pub mod Surveying
 pub mod StringLaws
 pub mod Moving
 pub mod WriteLaws
+pub mod StretchLaws
+pub mod BoxLaws
 pub mod TopLaws

@@ -1,18 +1,19 @@
 -- Numbers byte by byte from the low end, and the forms of sizes and integers with their lengths. Assumes nothing.
 use mathlib.Core.Path.{_≡_, refl, sym, ap, ap₂, _∙_}
-use mathlib.Core.List.{List, [], _∷_, _++_, append-assoc}
+use mathlib.Core.List.{List, [], _∷_, _++_, append-assoc, append-nil}
 use Prim.Native.Nat.{ℕ, zero, suc, _+_, _-_, _*_, _/_, _%_, _^_, _≤_, _<_}
 use native.Mathlib.Nat.{pow-suc, mul-comm, div-div-eq-div-mul, div-one, mod-eq-of-lt, mod-lt}
 use native.Mathlib.Omega.{arith}
 use lib.ListN.{length, drop, set, length-set}
 use lib.Seq.{drop-cons, drop-set-lt, getD-set-same}
 use lib.Pow as P
+use lib.Count.{leadingZeros, leading-top}
 use lib.IntN.{pos}
 use lib.Signed.{mag}
 use Rattle.format.specs.Numbers.{be, width, signed, twos}
 use Rattle.format.specs.Normal.{linteger, normalInt, normalSize}
 use Rattle.format.proofs.Choices.{ifLt-yes, ifLt-no, ifEq-yes, ifEq-no, split, byLt}
-use Rattle.format.proofs.Digits.{p256, be-length, width-fits, width-least}
+use Rattle.format.proofs.Digits.{p256, pow-le, be-length, width-fits, width-least}
 use Rattle.format.proofs.Marker.{pow-bytes}
 
 -- ---- the digits of a number from its low end
@@ -39,6 +40,43 @@ be-snoc (suc k) n h =
 pub low-snoc : (k n : ℕ) → be (suc k) (n % 256 ^ suc k) ≡ be k (n / 256 % 256 ^ k) ++ (n % 256 ∷ [])
 low-snoc k n = be-snoc k (n % 256 ^ suc k) (mod-lt n (p256 (suc k))) ∙ ap₂ (λ x y. be k x ++ (y ∷ [])) (low-high n k) (low-low n k)
 
+-- the high bytes of a number, and then its low ones
+pub low-parts : (a b n : ℕ) → be (a + b) (n % 256 ^ (a + b)) ≡ be a (n / 2 ^ (8 * b) % 256 ^ a) ++ be b (n % 256 ^ b)
+unfolding be
+low-parts a zero n =
+    let z : a + 0 ≡ a = omega arith in
+    let e : 8 * 0 ≡ 0 = omega arith in
+    let d : n / 2 ^ (8 * 0) ≡ n = ap (λ k. n / 2 ^ k) e ∙ div-one n in
+    ap (λ k. be k (n % 256 ^ k)) z ∙ ap (λ x. be a (x % 256 ^ a)) (sym d) ∙ sym (append-nil (be a (n / 2 ^ (8 * 0) % 256 ^ a)))
+low-parts a (suc b) n =
+    let z : a + suc b ≡ suc (a + b) = omega arith in
+    let e : 8 + 8 * b ≡ 8 * suc b = omega arith in
+    let d : n / 256 / 2 ^ (8 * b) ≡ n / 2 ^ (8 * suc b) = P.shr-shr n 8 (8 * b) ∙ ap (λ k. n / 2 ^ k) e in
+    ap (λ k. be k (n % 256 ^ k)) z ∙ low-snoc (a + b) n ∙ ap (λ l. l ++ (n % 256 ∷ [])) (low-parts a b (n / 256))
+    ∙ append-assoc (be a (n / 256 / 2 ^ (8 * b) % 256 ^ a)) (be b (n / 256 % 256 ^ b)) (n % 256 ∷ [])
+    ∙ ap₂ (λ x l. be a (x % 256 ^ a) ++ l) d (sym (low-snoc b n))
+
+-- the highest of some low bytes, and the others
+pub low-head : (k n : ℕ) → be (suc k) (n % 256 ^ suc k) ≡ n / 2 ^ (8 * k) % 256 ∷ be k (n % 256 ^ k)
+unfolding be
+low-head k n =
+    let z : 8 * suc k ≡ 8 + 8 * k = omega arith in
+    let e : 256 ^ suc k ≡ 2 ^ (8 + 8 * k) = sym (pow-bytes (suc k)) ∙ ap (λ x. 2 ^ x) z in
+    ap₂ (λ u v. n % u / v ∷ be k (n % u % v)) e (sym (pow-bytes k)) ∙ ap₂ (λ x y. x ∷ be k y) (P.field n 8 (8 * k)) (P.mod-mod-pow n 8 (8 * k))
+    ∙ ap (λ v. n / 2 ^ (8 * k) % 256 ∷ be k (n % v)) (pow-bytes k)
+
+pub low-four : (n : ℕ) → be 4 (n % 256 ^ 4) ≡ n / 2 ^ 24 % 256 ∷ n / 2 ^ 16 % 256 ∷ n / 2 ^ 8 % 256 ∷ n % 256 ∷ []
+unfolding be
+low-four n =
+    low-head 3 n ∙ ap (λ l. n / 2 ^ 24 % 256 ∷ l) (low-head 2 n ∙ ap (λ l. n / 2 ^ 16 % 256 ∷ l) (low-head 1 n ∙ ap (λ l. n / 2 ^ 8 % 256 ∷ l) (low-snoc 0 n)))
+
+pub word-eight : (n : ℕ) → n < 2 ^ 64 → be 8 n ≡ n / 2 ^ 56 ∷ n / 2 ^ 48 % 256 ∷ n / 2 ^ 40 % 256 ∷ n / 2 ^ 32 % 256 ∷ n / 2 ^ 24 % 256 ∷ n / 2 ^ 16 % 256 ∷ n / 2 ^ 8 % 256 ∷ n % 256 ∷ []
+word-eight n h =
+    let top : n / 2 ^ 56 % 256 ≡ n / 2 ^ 56 = mod-eq-of-lt (P.shr-lt 8 56 h) in
+    ap (be 8) (sym (mod-eq-of-lt {n = n} {m = 256 ^ 8} (omega arith)))
+    ∙ low-head 7 n ∙ ap (λ l. n / 2 ^ 56 % 256 ∷ l) (low-head 6 n ∙ ap (λ l. n / 2 ^ 48 % 256 ∷ l) (low-head 5 n ∙ ap (λ l. n / 2 ^ 40 % 256 ∷ l) (low-head 4 n ∙ ap (λ l. n / 2 ^ 32 % 256 ∷ l) (low-four n))))
+    ∙ ap (λ x. x ∷ n / 2 ^ 48 % 256 ∷ n / 2 ^ 40 % 256 ∷ n / 2 ^ 32 % 256 ∷ n / 2 ^ 24 % 256 ∷ n / 2 ^ 16 % 256 ∷ n / 2 ^ 8 % 256 ∷ n % 256 ∷ []) top
+
 -- one byte more, from the low end: the step of the loop that writes them
 pub low-turn : (k n i x : ℕ) (t out : List ℕ) → 0 < i → i ≤ length out →
     be k (n % 256 ^ k) ++ drop k t ≡ be i (x % 256 ^ i) ++ drop i out →
@@ -48,6 +86,24 @@ low-turn k n (suc i) x t out p l e =
     let q : suc i - 1 ≡ i = omega arith in
     rw (q, drop-cons (set out i (x % 256)) i 0 (rw (length-set out i (x % 256)) l), getD-set-same out i (x % 256) 0 l, drop-set-lt (suc i) out i (x % 256) (omega arith))
     (e ∙ ap (λ z. z ++ drop (suc i) out) (low-snoc i x) ∙ append-assoc (be i (x / 256 % 256 ^ i)) (x % 256 ∷ []) (drop (suc i) out))
+
+-- ---- the fewest bytes, by the highest bit
+pub width-log : (n v : ℕ) → 2 ^ n ≤ v → v < 2 ^ suc n → width v ≡ 1 + n / 8
+width-log n v g l =
+    let q : ℕ = n / 8 in
+    let up : v < 256 ^ suc q = rw (← pow-bytes (suc q)) (omega (arith, P.pow-mono {i = suc n} {j = 8 * suc q} (omega arith))) in
+    let low : 256 ^ q ≤ v = rw (← pow-bytes q) (omega (arith, P.pow-mono {i = 8 * q} {j = n} (omega arith))) in
+    let a : width v ≤ suc q = width-least v (suc q) (omega arith) up in
+    let b : q < width v = split q (width v) (λ h. h) (λ h. absurd (omega (arith, width-fits v, pow-le {i = width v} {j = q} h))) in
+    omega arith
+
+-- as the code finds it, from the zeros above that bit
+pub width-zeros : (n : ℕ) → 256 ≤ n → n < 2 ^ 64 → (leadingZeros 64 n ≤ 63) × ((71 - leadingZeros 64 n) / 8 ≡ width n) × (width n ≤ 8)
+width-zeros n g h =
+    let t = leading-top 64 n (omega arith) h in
+    let a : leadingZeros 64 n + suc (t .0) ≡ 64 = t .1 in
+    let w = width-log (t .0) n (t .2) (t .3) in
+    (omega arith, omega arith, omega arith)
 
 -- ---- the forms of a size
 pub size-0 : (n : ℕ) → n ≡ 0 → normalSize n ≡ 0x81 ∷ 0 ∷ []

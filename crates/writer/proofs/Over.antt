@@ -11,10 +11,6 @@ use Prim.Native.Nat.{suc, _+_}
 use lib.ListN.{take-append-drop}
 use lib.Seq.{set-split}
 
-pub over-nil : (t : List ℕ) → over [] t ≡ t
-unfolding over
-over-nil t = refl
-
 pub over-length : (l t : List ℕ) → length l ≤ length t → length (over l t) ≡ length t
 unfolding over
 over-length l t h = omega (arith, length-append l (drop (length l) t), length-drop (length l) t)
@@ -101,3 +97,29 @@ set-over i b t h =
     let z : i + 1 ≡ suc i = omega arith in
     let e : drop 1 (drop i t) ≡ drop (suc i) t = drop-drop 1 i t ∙ ap (λ z. drop z t) z in
     set-split t i b h ∙ ap (λ z. take i t ++ (b ∷ z)) (sym e)
+
+-- a byte behind bytes that stand already
+pub over-snoc : (n b : ℕ) (t l out : List ℕ) → out ≡ take n t ++ over l (drop n t) → n + length l < length t →
+    set out (n + length l) b ≡ take n t ++ over (l ++ (b ∷ [])) (drop n t)
+over-snoc n b t l out e h =
+    let k : length out ≡ length t =
+    ap length e ∙ length-append (take n t) (over l (drop n t))
+    ∙ omega (arith, length-take-le n t (omega arith), over-length l (drop n t) (omega (arith, length-drop n t)), length-drop n t) in
+    set-over (n + length l) b out (omega arith) ∙ sym (over-next n t l (b ∷ []) out e (omega arith))
+
+-- bytes one by one from the front, as straight-line code writes them
+module _ (t : List ℕ) (a b c d : ℕ) where
+  pub set-four : 4 ≤ length t → set (set (set (set t 0 a) 1 b) 2 c) 3 d ≡ over (a ∷ b ∷ c ∷ d ∷ []) t
+  set-four h =
+      over-snoc 0 d t (a ∷ b ∷ c ∷ []) (set (set (set t 0 a) 1 b) 2 c)
+      (over-snoc 0 c t (a ∷ b ∷ []) (set (set t 0 a) 1 b) (set-01 t a b (omega arith)) (omega arith))
+      (omega arith)
+
+  pub set-eight : (e f g i : ℕ) → 8 ≤ length t →
+      set (set (set (set (set (set (set (set t 0 a) 1 b) 2 c) 3 d) 4 e) 5 f) 6 g) 7 i ≡ over (a ∷ b ∷ c ∷ d ∷ e ∷ f ∷ g ∷ i ∷ []) t
+  set-eight e f g i h =
+      let s4 = set (set (set (set t 0 a) 1 b) 2 c) 3 d in
+      let s5 = over-snoc 0 e t (a ∷ b ∷ c ∷ d ∷ []) s4 (set-four (omega arith)) (omega arith) in
+      let s6 = over-snoc 0 f t (a ∷ b ∷ c ∷ d ∷ e ∷ []) (set s4 4 e) s5 (omega arith) in
+      let s7 = over-snoc 0 g t (a ∷ b ∷ c ∷ d ∷ e ∷ f ∷ []) (set (set s4 4 e) 5 f) s6 (omega arith) in
+      over-snoc 0 i t (a ∷ b ∷ c ∷ d ∷ e ∷ f ∷ g ∷ []) (set (set (set s4 4 e) 5 f) 6 g) s7 (omega arith)

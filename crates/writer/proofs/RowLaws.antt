@@ -1,5 +1,5 @@
 -- What the judge asks of single rows, step by step as the code asks it. Assumes nothing.
-use mathlib.Core.Path.{_≡_, refl, _∙_, ap}
+use mathlib.Core.Path.{_≡_, refl, _∙_}
 use mathlib.Core.List.{List}
 use mathlib.Core.Bool.{Bool, true, false}
 use Prim.Native.Nat.{ℕ, zero, suc, _+_, _-_, _*_, _/_, _%_, _^_, _<_, _≤_}
@@ -12,7 +12,7 @@ use Rattle.writer.specs.declared.judge.Judged.the-variants.{Wrong, Right
 use Rattle.format.specs.Choice.{ifEq, both}
 use Rattle.format.specs.Bits.{wordsFor}
 use Rattle.format.proofs.Choices.{ifLt-yes, ifLt-no, ifEq-yes, ifEq-no, lt-true, lt-false, eq-true, eq-false, byLt, split}
-use Rattle.writer.specs.Rows.{kindAt, aAt, bAt, lands, charsF, allChars, intAt, edtRows, groupOk, codes, plainOk, dataAt, dataTo, lastWord, bitsOk, rowOk, BitsJudged, RowJudged, PlainRows}
+use Rattle.writer.specs.Rows.{kindAt, aAt, bAt, lands, charsF, allChars, intAt, edtRows, kindOk, groupOk, codes, plainOk, dataAt, dataTo, lastWord, bitsOk, rowOk, BitsJudged, RowJudged}
 
 -- ---- hopping over direct elements
 module _ (w : List ℕ) (e : ℕ) where
@@ -112,19 +112,22 @@ module _ (w : List ℕ) (R p : ℕ) where
   group-missed m =
       byLt (λ b. b ≡ false) (R - (p + 1)) (bAt w p) (λ l. refl) (λ g. both-no _ _ m)
 
-  landed : bAt w p ≤ R - (p + 1) → lands w (aAt w p) (p + 1) (p + 1 + bAt w p) ≡ true →
-      groupOk w R p ≡ ifEq (kindAt w p) 7 true (ifEq (kindAt w p) 8 (edtRows w (p + 1) (p + 1 + bAt w p)) false)
+  pub group-landed : bAt w p ≤ R - (p + 1) → lands w (aAt w p) (p + 1) (p + 1 + bAt w p) ≡ true → groupOk w R p ≡ kindOk w p (p + 1 + bAt w p)
   unfolding groupOk
-  landed s m = ifLt-no (R - (p + 1)) (bAt w p) _ _ s ∙ both-yes _ _ m
+  group-landed s m = ifLt-no (R - (p + 1)) (bAt w p) _ _ s ∙ both-yes _ _ m
 
-  pub group-struc : bAt w p ≤ R - (p + 1) → lands w (aAt w p) (p + 1) (p + 1 + bAt w p) ≡ true → kindAt w p ≡ 7 → groupOk w R p ≡ true
-  group-struc s m k = landed s m ∙ ifEq-yes (kindAt w p) 7 _ _ k
+module _ (w : List ℕ) (p e : ℕ) where
+  pub kind-struc : kindAt w p ≡ 7 → kindOk w p e ≡ true
+  unfolding kindOk
+  kind-struc k = ifEq-yes (kindAt w p) 7 _ _ k
 
-  pub group-edt : bAt w p ≤ R - (p + 1) → lands w (aAt w p) (p + 1) (p + 1 + bAt w p) ≡ true → kindAt w p ≡ 8 → groupOk w R p ≡ edtRows w (p + 1) (p + 1 + bAt w p)
-  group-edt s m k = landed s m ∙ ifEq-no (kindAt w p) 7 _ _ (λ z. omega arith) ∙ ifEq-yes (kindAt w p) 8 _ _ k
+  pub kind-edt : kindAt w p ≡ 8 → kindOk w p e ≡ edtRows w (p + 1) e
+  unfolding kindOk
+  kind-edt k = ifEq-no (kindAt w p) 7 _ _ (λ z. omega arith) ∙ ifEq-yes (kindAt w p) 8 _ _ k
 
-  pub group-other : bAt w p ≤ R - (p + 1) → lands w (aAt w p) (p + 1) (p + 1 + bAt w p) ≡ true → (kindAt w p ≡ 7 → ⊥) → (kindAt w p ≡ 8 → ⊥) → groupOk w R p ≡ false
-  group-other s m j k = landed s m ∙ ifEq-no (kindAt w p) 7 _ _ j ∙ ifEq-no (kindAt w p) 8 _ _ k
+  pub kind-other : (kindAt w p ≡ 7 → ⊥) → (kindAt w p ≡ 8 → ⊥) → kindOk w p e ≡ false
+  unfolding kindOk
+  kind-other j k = ifEq-no (kindAt w p) 7 _ _ j ∙ ifEq-no (kindAt w p) 8 _ _ k
 
 -- ---- rows with one number
 pub codes-other : (k : ℕ) → (k ≡ 1 → ⊥) → (k ≡ 3 → ⊥) → (k ≡ 4 → ⊥) → (k ≡ 5 → ⊥) → (k ≡ 6 → ⊥) → codes k ≡ 0
@@ -195,35 +198,6 @@ pub last-is : (w : List ℕ) (r d n : ℕ) → r ≡ getD w 0 0 → getD w (3 * 
 unfolding lastWord wordsFor
 last-is w r d n e = rw e refl
 
--- ---- a stretch of rows with no data words
-pub plain-starts : (w : List ℕ) (R p : ℕ) → p ≤ R → PlainRows w R p p
-plain-starts w R p h = record { start = omega arith; within = h; each = λ i u v. absurd (omega arith); none = refl }
-
-plain-on : (w : List ℕ) (R p q : ℕ) → PlainRows w R p q → q < R → (kindAt w q ≡ 2 → ⊥) → rowOk w R q ≡ true → PlainRows w R p (q + 1)
-plain-on w R p q s h k t =
-    let a = s .start in
-    record {
-      start = omega arith;
-      within = omega arith;
-      each = λ i u v. split i q (λ l. s .each i u l) (λ g. let e : q ≡ i = omega arith in rw e at t);
-      none = data-suc w q ∙ ap (λ z. dataTo w q + z) (data-none w q k) ∙ omega (arith, s .none);
-    }
-
-pub int-on : (w : List ℕ) (R p q : ℕ) → PlainRows w R p q → q < R → aAt w q ≡ 0 → kindAt w q ≡ 1 → bAt w q < 2 ^ 64 → PlainRows w R p (q + 1)
-int-on w R p q s h a k b =
-    plain-on w R p q s h (λ z. omega arith) (row-plain w R q (omega arith) (λ z. omega arith) ∙ plain-int (kindAt w q) (aAt w q) (bAt w q) a k b)
-
-pub char-on : (w : List ℕ) (R p q : ℕ) → PlainRows w R p q → q < R → aAt w q ≡ 0 → kindAt w q ≡ 3 → bAt w q < 128 → PlainRows w R p (q + 1)
-unfolding codes
-char-on w R p q s h a k b =
-    plain-on w R p q s h (λ z. omega arith)
-    (row-plain w R q (omega arith) (λ z. omega arith) ∙ plain-codes (kindAt w q) (aAt w q) (bAt w q) a
-    ∙ ap (λ j. ltb (bAt w q) (codes j)) k ∙ lt-true (bAt w q) 128 b)
-
--- rows in order up to p, and a stretch from there
-pub all-on : (w : List ℕ) (R p q : ℕ) → ((i : ℕ) → i < p → rowOk w R i ≡ true) → PlainRows w R p q → (i : ℕ) → i < q → rowOk w R i ≡ true
-all-on w R p q f s i h = split i p (λ l. f i l) (λ g. s .each i g h)
-
--- and one row more
+-- rows in order up to q, and one row more
 pub row-on : (w : List ℕ) (R q : ℕ) → ((i : ℕ) → i < q → rowOk w R i ≡ true) → rowOk w R q ≡ true → (i : ℕ) → i < q + 1 → rowOk w R i ≡ true
 row-on w R q f t i h = split i q (λ l. f i l) (λ g. let e : q ≡ i = omega arith in rw e at t)

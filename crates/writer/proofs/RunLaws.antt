@@ -7,20 +7,18 @@ use native.Mathlib.Omega.{arith}
 use lib.ListN.{length, length-append}
 use lib.IntN.{ℤ, pos, negsuc}
 use lib.Signed.{mag}
-use Rattle.writer.specs.declared.measure.Measured.the-variants.{Deep, Length}
 use Rattle.format.specs.Choice.{both}
 use Rattle.format.specs.Numbers.{be, width, twos}
 use Rattle.format.specs.Bits.{num, packed, bytesFor, wordsFor}
 use Rattle.format.specs.Items.{Leaf, int, bits, char, bool, empty, xtra, Group, Items, end, leaf, group, properLeaf, properGroup, proper}
 use Rattle.format.specs.Tables.{rows, leafWords, dataWords, rowKind}
 use Rattle.format.specs.Normal.{normalSize, withSize, linteger, normalInt, sbitstr, normalBits, normalLeaf, normal, depth}
-use Rattle.format.proofs.Choices.{split, byLt, ifLt-yes, ifLt-no, true-lt, both-left, both-right}
+use Rattle.format.proofs.Choices.{split, ifLt-yes, ifLt-no, true-lt, both-left, both-right}
 use Rattle.format.proofs.Digits.{be-length, width-least}
 use Rattle.format.proofs.BitLaws.{packed-length}
 use Rattle.format.proofs.Marker.{marker-lt}
 use Rattle.format.proofs.TableLaws.{leaf-kind}
 use Rattle.writer.specs.Rows.{kindAt, bAt, Stands, itemsAt, Run, LeafRow, leafAt, LeafAt}
-use Rattle.writer.specs.Measures.{measured, boxed}
 use Rattle.writer.proofs.NumberLaws.{size-short}
 use Rattle.writer.proofs.Standing.{group-kind, leaf-parts, group-parts, stands-is, run-of, leaf-is}
 
@@ -127,7 +125,7 @@ leaf-bound (bool b) p h = omega arith
 leaf-bound empty p h = omega arith
 leaf-bound (xtra n) p h = omega arith
 
-normal-bound : (xs : Items) → proper xs ≡ true → rows xs ≤ 16384 → length (dataWords xs) ≤ 16384 → length (normal xs) ≤ 20 * rows xs + 8 * length (dataWords xs)
+pub normal-bound : (xs : Items) → proper xs ≡ true → rows xs ≤ 16384 → length (dataWords xs) ≤ 16384 → length (normal xs) ≤ 20 * rows xs + 8 * length (dataWords xs)
 unfolding normal rows dataWords proper withSize
 normal-bound end p r d = omega arith
 normal-bound (leaf l xs) p r d =
@@ -142,14 +140,6 @@ normal-bound (group g c xs) p r d =
     let b = normal-bound xs (both-right (proper c) (proper xs) q) (omega arith) (omega arith) in
     let s = size-short (length (normal c)) (omega arith) in
     omega (arith, length-append (normalSize (length (normal c)) ++ normal c) (normal xs), length-append (normalSize (length (normal c))) (normal c))
-
-pub run-bound : (w : List ℕ) (p e : ℕ) → Run w p e → length (normal (itemsAt w p e)) ≤ 458752
-run-bound w p e r =
-    let s = r .stands in
-    let n = s .number in
-    let f = s .few in
-    let l = s .little in
-    omega (arith, normal-bound (itemsAt w p e) (s .good) (omega arith) (omega arith))
 
 -- ---- the length of one item, then of the rest
 pub box-length : (c : Items) → 1 + length (withSize (normal c)) ≡ 1 + length (normalSize (length (normal c))) + length (normal c)
@@ -174,38 +164,3 @@ module _ (w : List ℕ) (p e : ℕ) where
 pub leaf-normal : (w : List ℕ) (p e : ℕ) → LeafStep w p e → normal (itemsAt w p e) ≡ normalLeaf (leafAt w p) ++ normal (itemsAt w (p + 1) e)
 unfolding normal
 leaf-normal w p e s = ap normal (s .is)
-
--- ---- measured, case by case
-pub measured-deep : (d : ℕ) (xs : Items) → d < depth xs → Deep ≡ measured d xs
-unfolding measured
-measured-deep d xs h = sym (ifLt-yes d (depth xs) _ _ h)
-
-pub measured-length : (d n : ℕ) (xs : Items) → depth xs ≤ d → n ≡ length (normal xs) → Length n ≡ measured d xs
-unfolding measured
-measured-length d n xs h e = ap Length e ∙ sym (ifLt-no d (depth xs) _ _ h)
-
-pub is-deep : (d : ℕ) (xs : Items) → Deep ≡ measured d xs → d < depth xs
-unfolding measured
-is-deep d xs = byLt (λ m. Deep ≡ m → d < depth xs) d (depth xs) (λ l e. l) (λ g e. let z : _≡_ {A = ℕ} 0 1 = cc in absurd (omega arith))
-
-pub is-length : (d n : ℕ) (xs : Items) → Length n ≡ measured d xs → (depth xs ≤ d) × (n ≡ length (normal xs))
-unfolding measured
-is-length d n xs =
-    byLt (λ m. Length n ≡ m → (depth xs ≤ d) × (n ≡ length (normal xs))) d (depth xs) (λ l e. let z : _≡_ {A = ℕ} 0 1 = cc in absurd (omega arith)) (λ g e. (g, cc))
-
-pub box-deep : (d : ℕ) (c : Items) → d < suc (depth c) → Deep ≡ boxed d c
-unfolding boxed
-box-deep d c h = sym (ifLt-yes d (suc (depth c)) _ _ h)
-
-pub box-fits : (d n : ℕ) (c : Items) → suc (depth c) ≤ d → n ≡ 1 + length (withSize (normal c)) → Length n ≡ boxed d c
-unfolding boxed
-box-fits d n c h e = ap Length e ∙ sym (ifLt-no d (suc (depth c)) _ _ h)
-
-pub is-box-deep : (d : ℕ) (c : Items) → Deep ≡ boxed d c → d < suc (depth c)
-unfolding boxed
-is-box-deep d c = byLt (λ m. Deep ≡ m → d < suc (depth c)) d (suc (depth c)) (λ l e. l) (λ g e. let z : _≡_ {A = ℕ} 0 1 = cc in absurd (omega arith))
-
-pub is-box-length : (d n : ℕ) (c : Items) → Length n ≡ boxed d c → (suc (depth c) ≤ d) × (n ≡ 1 + length (withSize (normal c)))
-unfolding boxed
-is-box-length d n c =
-    byLt (λ m. Length n ≡ m → (suc (depth c) ≤ d) × (n ≡ 1 + length (withSize (normal c)))) d (suc (depth c)) (λ l e. let z : _≡_ {A = ℕ} 0 1 = cc in absurd (omega arith)) (λ g e. (g, cc))

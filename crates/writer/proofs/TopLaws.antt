@@ -1,25 +1,26 @@
 -- From the verdict on a table to the answers of the public operations. Assumes nothing.
-use mathlib.Core.Path.{_≡_, refl, sym, _∙_, ap}
+use mathlib.Core.Path.{_≡_, refl, sym, _∙_, ap, subst}
 use mathlib.Core.List.{List, []}
-use mathlib.Core.Bool.{true, false}
+use mathlib.Core.Bool.{Bool, true, false}
 use mathlib.Core.Option.{Option, none, some}
 use Prim.Native.Nat.{ℕ, _<_, _≤_}
 use native.Mathlib.Omega.{arith}
 use lib.ListN.{length, getD}
-use Rattle.writer.specs.declared.measure.Measured.the-variants.{Deep, Length}
 use Rattle.writer.specs.declared.Verdict.{Verdict}
 use Rattle.writer.specs.declared.Verdict.the-variants.{Refused, Normal}
 use Rattle.format.specs.Items.{Items}
-use Rattle.format.specs.Tables.{itemsOf}
+use Rattle.format.specs.Tables.{count, dataWords, itemsOf}
 use Rattle.format.specs.Normal.{normal, depth}
 use Rattle.format.specs.Answers.{Writing, over, unwritten, judged, put, writing, told, normalLength}
 use Rattle.format.proofs.Choices.{ifLt-yes, ifLt-no, byLt}
-use Rattle.writer.specs.Rows.{itemsAt, Run, isSome}
-use Rattle.writer.specs.Measures.{measured, Fits}
+use Rattle.writer.specs.Rows.{Stands, itemsAt, Run, Header, HeaderJudged, isSome}
+use Rattle.writer.specs.Surveys.{Placed, NoItems, TooDeep, Passed}
+use Rattle.writer.specs.Measures.{Fits}
 use Rattle.writer.specs.Verdicts.{verdictOf, verdict}
-use Rattle.writer.proofs.RunLaws.{is-deep, is-length}
+use Rattle.writer.proofs.LeafRows.{clash}
+use Rattle.writer.proofs.Passing.{alone, alone-is}
 use Rattle.writer.proofs.Standing.{stands-is, run-of}
-use Rattle.writer.proofs.Whole.{whole}
+use Rattle.writer.proofs.Whole.{whole, items-of}
 
 -- the items of a whole table, as the code finds them
 abbrev pub allOf : List ℕ → Items
@@ -40,42 +41,94 @@ ready w xs e =
     }
 
 -- ---- the verdict, as the code reaches it
-pub verdict-none : (w : List ℕ) → isSome (itemsOf w) ≡ false → Refused 12 ≡ verdict w
-unfolding verdict verdictOf isSome
-verdict-none w e = go (itemsOf w) e
+pub verdict-none : (w : List ℕ) → ((xs : Items) → itemsOf w ≡ some xs → ⊥) → Refused 12 ≡ verdict w
+unfolding verdict verdictOf
+verdict-none w n = go (itemsOf w) refl
   where
-    go : (o : Option Items) → isSome o ≡ false → Refused 12 ≡ verdictOf o
+    go : (o : Option Items) → itemsOf w ≡ o → Refused 12 ≡ verdictOf o
     go none e = refl
-    go (some xs) e = let z : _≡_ {A = ℕ} 0 1 = cc in absurd (omega arith)
+    go (some xs) e = absurd (n xs e)
 
-pub table-ready : (w : List ℕ) → isSome (itemsOf w) ≡ true → Ready w
-unfolding isSome
-table-ready w e = go (itemsOf w) refl e
-  where
-    go : (o : Option Items) → itemsOf w ≡ o → isSome o ≡ true → Ready w
-    go none q e = let z : _≡_ {A = ℕ} 0 1 = cc in absurd (omega arith)
-    go (some xs) q e = ready w xs q
+pub headed : (w : List ℕ) (r : Bool) → HeaderJudged w r → r ≡ true → Header w (getD w 0 0) (getD w 3 0)
+headed w true h e = h
+headed w false h e = clash false e refl
 
-module _ (w : List ℕ) (r : Ready w) where
-  verdict-is : verdict w ≡ verdictOf (some (allOf w))
+pub no-header : (w : List ℕ) (r : Bool) → HeaderJudged w r → r ≡ false → Refused 12 ≡ verdict w
+no-header w true h e = clash true refl e
+no-header w false n e = verdict-none w (λ xs f. n (whole w xs f .formed .header))
+
+module _ (w : List ℕ) (R D : ℕ) (h : Header w R D) where
+  all-placed : (xs : Items) → itemsOf w ≡ some xs → Placed w D 0 0 R xs
+  all-placed xs e =
+      let t = whole w xs e in
+      let d = h .words in
+      record { stands = rw (← h .rows) at (t .stands); fits = omega (arith, t .words) }
+
+  pub no-items : NoItems w D 0 0 R → Refused 12 ≡ verdict w
+  no-items n = verdict-none w (λ xs e. n xs (all-placed xs e))
+
+  pub not-judged : false ≡ isSome (itemsOf w) → Refused 12 ≡ verdict w
+  unfolding isSome
+  not-judged f = verdict-none w (λ xs e. clash (isSome (itemsOf w)) (ap isSome e) (sym f))
+
+  verdict-some : (xs : Items) → itemsOf w ≡ some xs → verdict w ≡ verdictOf (some xs)
   unfolding verdict
-  verdict-is = ap verdictOf (r .is)
+  verdict-some xs e = ap verdictOf e
 
-  pub verdict-deep : Deep ≡ measured 16 (allOf w) → Refused 13 ≡ verdict w
-  unfolding verdictOf
-  verdict-deep e = sym (verdict-is ∙ ifLt-yes 16 (depth (allOf w)) _ _ (is-deep 16 (allOf w) e))
+  pub deep-judged : TooDeep w D 16 0 0 R → true ≡ isSome (itemsOf w) → Refused 13 ≡ verdict w
+  unfolding verdictOf isSome
+  deep-judged n t = go (itemsOf w) refl t
+    where
+      go : (o : Option Items) → itemsOf w ≡ o → true ≡ isSome o → Refused 13 ≡ verdict w
+      go none e q = let z : _≡_ {A = ℕ} 0 1 = cc in absurd (omega arith)
+      go (some xs) e q = sym (verdict-some xs e ∙ ifLt-yes 16 (depth xs) _ _ (n xs (all-placed xs e)))
 
-  pub verdict-long : (n : ℕ) → Length n ≡ measured 16 (allOf w) → 65536 < n → Refused 14 ≡ verdict w
-  unfolding verdictOf
-  verdict-long n e l =
-      let k = is-length 16 n (allOf w) e in
-      sym (verdict-is ∙ ifLt-no 16 (depth (allOf w)) _ _ (k .0) ∙ ifLt-yes 65536 (length (normal (allOf w))) _ _ (omega arith))
+  module _ (v c n : ℕ) (f : Passed w D 16 0 0 v R c n) where
+    -- what stands there is all that can
+    abbrev found : Items
+    found = alone w R D h 16 0 0 v R c n (omega arith) f .items
 
-  pub verdict-normal : (n : ℕ) → Length n ≡ measured 16 (allOf w) → n ≤ 65536 → Normal n ≡ verdict w
-  unfolding verdictOf
-  verdict-normal n e l =
-      let k = is-length 16 n (allOf w) e in
-      sym (verdict-is ∙ ifLt-no 16 (depth (allOf w)) _ _ (k .0) ∙ ifLt-no 65536 (length (normal (allOf w))) _ _ (omega arith) ∙ ap Normal (sym (k .1)))
+    only : (xs : Items) → itemsOf w ≡ some xs → xs ≡ found
+    only xs e = alone-is w R D h 16 0 0 v R c n (alone w R D h 16 0 0 v R c n (omega arith) f) xs (all-placed xs e)
+
+    pub miscounted : (c ≡ getD w 1 0 → ⊥) → Refused 12 ≡ verdict w
+    unfolding count
+    miscounted g =
+        verdict-none w (λ xs e.
+        let a = alone w R D h 16 0 0 v R c n (omega arith) f in
+        let q = ap count (only xs e) in
+        g (omega (arith, a .number, whole w xs e .number)))
+
+    pub misplaced : (v ≡ D → ⊥) → Refused 12 ≡ verdict w
+    unfolding dataWords
+    misplaced g =
+        verdict-none w (λ xs e.
+        let a = alone w R D h 16 0 0 v R c n (omega arith) f in
+        let q : length (dataWords xs) ≡ length (dataWords found) = ap (λ z. length (dataWords z)) (only xs e) in
+        let d = h .words in
+        g (omega (arith, a .words, whole w xs e .words)))
+
+    module _ (cs : c ≡ getD w 1 0) (ws : v ≡ D) where
+      all-found : itemsOf w ≡ some found
+      unfolding count dataWords
+      all-found =
+          let a = alone w R D h 16 0 0 v R c n (omega arith) f in
+          let r = h .rows in
+          let d = h .words in
+          items-of w (rw (r, d) at h) found (subst (λ (i : ℕ). Stands w 0 0 i found) r (a .placed .stands)) (omega (arith, a .number)) (omega (arith, a .words))
+
+      pub verdict-long : 65536 < n → Refused 14 ≡ verdict w
+      unfolding verdictOf normal depth
+      verdict-long l =
+          let a = alone w R D h 16 0 0 v R c n (omega arith) f in
+          sym (verdict-some found all-found ∙ ifLt-no 16 (depth found) _ _ (omega (arith, a .shallow)) ∙ ifLt-yes 65536 (length (normal found)) _ _ (omega (arith, a .size)))
+
+      pub verdict-normal : n ≤ 65536 → Normal n ≡ verdict w
+      unfolding verdictOf normal depth
+      verdict-normal l =
+          let a = alone w R D h 16 0 0 v R c n (omega arith) f in
+          let q : n ≡ length (normal found) = omega (arith, a .size) in
+          sym (verdict-some found all-found ∙ ifLt-no 16 (depth found) _ _ (omega (arith, a .shallow)) ∙ ifLt-no 65536 (length (normal found)) _ _ (omega arith) ∙ ap Normal (sym q))
 
 -- ---- from the verdict to the answers
 refused-of : (n : ℕ) (o : Option Items) (t : List ℕ) (f : List ℕ → Writing) → Refused n ≡ verdictOf o → judged o t f ≡ unwritten n 0 t

@@ -10,7 +10,7 @@ use lib.Seq.{drop-drop, drop-at}
 use lib.Dec.{eqb}
 use Rattle.format.specs.Refusals.{rowLimit, wordLimit}
 use Rattle.format.specs.Items.{Items, proper}
-use Rattle.format.specs.Tables.{rows, dataWords, rowWords, tableOf, lawful, itemsOf}
+use Rattle.format.specs.Tables.{count, rows, dataWords, rowWords, tableOf, lawful, itemsOf}
 use Rattle.format.proofs.Choices.{le-true, both-true}
 use Rattle.format.proofs.TableLaws.{row-length, lawful-proper, lawful-rows, lawful-words, table-back, table-only}
 use Rattle.writer.specs.Rows.{dataOf, Stands, Header, lands, rowOk, dataTo, isSome}
@@ -29,6 +29,8 @@ pub record Formed (w : List ℕ) : Type 0 where
 pub record Whole (w : List ℕ) (xs : Items) : Type 0 where
   pub formed : Formed w
   pub stands : Stands w 0 0 (getD w 0 0) xs
+  pub number : count xs ≡ getD w 1 0
+  pub words : length (dataWords xs) ≡ getD w 3 0
 
 four : (w : List ℕ) → 4 ≤ length w → w ≡ getD w 0 0 ∷ getD w 1 0 ∷ getD w 2 0 ∷ getD w 3 0 ∷ drop 4 w
 four [] h = absurd (omega arith)
@@ -79,6 +81,8 @@ table-whole xs rest h =
         all = j .many ∙ omega arith;
       };
       stands = s;
+      number = refl;
+      words = refl;
     }
 
 -- words that have items
@@ -88,25 +92,20 @@ whole w xs e =
     let q : tableOf xs ++ drop (length (tableOf xs)) w ≡ w = ap (λ z. z ++ drop (length (tableOf xs)) w) (sym (t .2)) ∙ take-append-drop (length (tableOf xs)) w in
     subst (λ (v : List ℕ). Whole v xs) q (table-whole xs (drop (length (tableOf xs)) w) (t .0))
 
--- words that the judge finds in order
-items-of : (w : List ℕ) → ((i : ℕ) → getD w i 0 < 2 ^ 64) → (f : Formed w) → (o : Found w (getD w 1 0) 0 (getD w 0 0)) → itemsOf w ≡ some (o .items)
-unfolding tableOf lawful dataTo
-items-of w bound f o =
-    let xs = o .items in
-    let s = o .stands in
-    let h = f .header in
+-- words in which items stand, all that the header claims
+pub items-of : (w : List ℕ) → Header w (getD w 0 0) (getD w 3 0) → (xs : Items) → Stands w 0 0 (getD w 0 0) xs → count xs ≡ getD w 1 0 → length (dataWords xs) ≡ getD w 3 0 → itemsOf w ≡ some xs
+unfolding tableOf lawful
+items-of w h xs s c m =
     let hf = h .few in
     let hl = h .little in
-    let a = f .all in
+    let hw = h .within in
     let r : rows xs ≡ getD w 0 0 = omega (arith, s .number) in
-    let m : length (dataWords xs) ≡ getD w 3 0 = omega (arith, o .many) in
     let law : lawful xs ≡ true = both-true (proper xs) _ (s .good) (both-true _ _ (le-true (rows xs) rowLimit (omega arith)) (le-true (length (dataWords xs)) wordLimit (omega arith))) in
-    let rest : List ℕ = drop (dataTo w 0 + length (dataWords xs)) (dataOf w) in
+    let rest : List ℕ = drop (0 + length (dataWords xs)) (dataOf w) in
     let i : 3 * getD w 0 0 + 4 ≡ 4 + 3 * getD w 0 0 = omega arith in
     let b : drop 4 w ≡ (rowWords 0 xs ++ dataWords xs) ++ rest =
     s .words ∙ ap (λ z. rowWords 0 xs ++ z) (ap (λ z. drop z w) i ∙ s .contents) ∙ sym (append-assoc (rowWords 0 xs) (dataWords xs) rest) in
-    let q : w ≡ tableOf xs ++ rest =
-    four w (f .long) ∙ rw (b, h .offset, ← m, ← r, ← o .number) refl in
+    let q : w ≡ tableOf xs ++ rest = four w (omega arith) ∙ rw (b, h .offset, ← m, ← r, ← c) refl in
     ap itemsOf q ∙ table-back xs rest law
 
 formed-found : (w : List ℕ) → ((i : ℕ) → getD w i 0 < 2 ^ 64) → (f : Formed w) → Found w (getD w 1 0) 0 (getD w 0 0)
@@ -117,8 +116,11 @@ formed-found w bound f =
     sound w (getD w 0 0) (h .few) (h .little) hw (omega arith) bound (getD w 0 0) (getD w 1 0) 0 (getD w 0 0) (omega arith) (omega arith) (omega arith) (f .outer) (f .each) (omega arith)
 
 pub formed-yes : (w : List ℕ) → ((i : ℕ) → getD w i 0 < 2 ^ 64) → Formed w → true ≡ isSome (itemsOf w)
-unfolding isSome
-formed-yes w bound f = sym (ap isSome (items-of w bound f (formed-found w bound f)))
+unfolding isSome dataTo
+formed-yes w bound f =
+    let o = formed-found w bound f in
+    let a = f .all in
+    sym (ap isSome (items-of w (f .header) (o .items) (o .stands) (o .number) (omega (arith, o .many))))
 
 pub formed-no : (w : List ℕ) → (Formed w → ⊥) → false ≡ isSome (itemsOf w)
 formed-no w n = go (itemsOf w) refl

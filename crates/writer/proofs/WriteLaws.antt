@@ -15,11 +15,10 @@ use Rattle.format.specs.Answers.{over}
 use Rattle.format.proofs.Choices.{split, split-eq, byLt, ifEq-yes, ifEq-no}
 use Rattle.format.proofs.Digits.{width-mono}
 use Rattle.writer.specs.Rows.{kindAt, bAt, itemsAt, Run, leafAt}
-use Rattle.writer.specs.Measures.{Fits, FitsBox, headByte}
+use Rattle.writer.specs.Measures.{Fits, headByte}
 use Rattle.writer.proofs.NumberLaws.{size-length-0, size-length-1, size-length-long}
-use Rattle.writer.proofs.RunLaws.{LeafStep, GroupStep, run-end, box-length}
-use Rattle.writer.proofs.Over.{over-next, over-done}
-use Rattle.writer.proofs.RunLaws.{leaf-normal}
+use Rattle.writer.proofs.RunLaws.{LeafStep, GroupStep, run-end, leaf-normal, leaf-adds, group-adds}
+use Rattle.writer.proofs.Over.{over-next, over-done, back-length, lent}
 
 -- ---- the type-byte of a container
 pub head-edt : (k : ℕ) (c : Items) → k ≡ 8 → 0xc3 ≡ headByte k c
@@ -68,7 +67,7 @@ leaf-pos (bool b) = omega arith
 leaf-pos empty = omega arith
 leaf-pos (xtra n) = omega arith
 
-rows-least : (xs : Items) → rows xs ≤ length (normal xs)
+pub rows-least : (xs : Items) → rows xs ≤ length (normal xs)
 unfolding normal rows withSize
 rows-least end = omega arith
 rows-least (leaf l xs) = omega (arith, rows-least xs, leaf-pos l, length-append (normalLeaf l) (normal xs))
@@ -157,12 +156,22 @@ module _ (w : List ℕ) (from to d : ℕ) (old out : List ℕ) (p n : ℕ) (s : 
         left = rw bl (s .left ∙ ap (λ z. take n out ++ over z (drop n out)) e ∙ over-next n out l m after a (going-room l q e));
       }
 
--- ---- what a container has room for
-pub box-room : (w : List ℕ) (p e d n g : ℕ) → FitsBox w p e d n → g ≡ length (normalSize (e - p)) →
-    (1 + g ≤ n) × (length (normal (itemsAt w p e)) ≤ n - (1 + g)) × (g ≤ length (normalSize (length (normal (itemsAt w p e)))))
-    × (1 + length (normalSize (length (normal (itemsAt w p e)))) + length (normal (itemsAt w p e)) ≤ n)
-box-room w p e d n g f q =
-    let r = f .room in
-    let l = least-size w p e (f .run) in
-    let b = box-length (itemsAt w p e) in
-    (omega arith, omega arith, omega arith, omega arith)
+  -- the item comes back in the part that was lent for it
+  pub going-leaf : LeafStep w p to → p < to → (b : ℕ) (ys : List ℕ) → b ≡ length (normalLeaf (leafAt w p)) → length ys ≡ length (take (length out - n) (drop n out)) →
+      ys ≡ over (normalLeaf (leafAt w p)) (take (length out - n) (drop n out)) → Going w from to d old (take n out ++ (ys ++ drop (length out - n) (drop n out))) (p + 1) (n + b)
+  going-leaf t h b ys e k y =
+      let g = s .shallow in
+      let a = leaf-adds w p to t .1 in
+      let r = leaf-room t in
+      going-on (normalLeaf (leafAt w p)) _ (p + 1) b (leaf-normal w p to t) (omega arith) (t .next) (omega arith) (back-length n out ys (omega arith) k) (lent n out (normalLeaf (leafAt w p)) ys y) e
+
+  pub going-group : GroupStep w p to → (b : ℕ) (ys : List ℕ) → b ≡ 1 + length (withSize (normal (itemsAt w (p + 1) (p + 1 + bAt w p)))) → length ys ≡ length (take (length out - n) (drop n out)) →
+      ys ≡ over (headByte (kindAt w p) (itemsAt w (p + 1) (p + 1 + bAt w p)) ∷ withSize (normal (itemsAt w (p + 1) (p + 1 + bAt w p)))) (take (length out - n) (drop n out)) →
+      Going w from to d old (take n out ++ (ys ++ drop (length out - n) (drop n out))) (p + 1 + bAt w p) (n + b)
+  going-group t b ys e k y =
+      let c = itemsAt w (p + 1) (p + 1 + bAt w p) in
+      let m = headByte (kindAt w p) c ∷ withSize (normal c) in
+      let g = s .shallow in
+      let a = group-adds w p to t .1 in
+      let r = group-room t in
+      going-on m _ (p + 1 + bAt w p) b (group-normal w p to t) (t .within) (t .next) (omega arith) (back-length n out ys (omega arith) k) (lent n out m ys y) (e ∙ omega arith)

@@ -1,5 +1,6 @@
 -- The parts of a normal form that the code measures and writes one by one.
-use Prim.Native.Nat.{ℕ, _+_, _/_}
+use Prim.Native.Nat.{ℕ, zero, suc, _+_, _/_, _≤_, _<_}
+use mathlib.Core.Path.{_≡_}
 use mathlib.Core.Bool.{true}
 use mathlib.Core.List.{List, [], _∷_, _++_}
 use lib.ListN.{length}
@@ -8,6 +9,7 @@ use Rattle.format.specs.Choice.{ifLt, ifEq}
 use Rattle.format.specs.Bits.{num, packed, bytesFor}
 use Rattle.format.specs.Items.{Leaf, int, bits, char, bool, empty, xtra}
 use Rattle.format.specs.Normal.{normalSize, normalInt}
+use Rattle.writer.specs.Rows.{kindAt, bAt}
 
 -- the contents of an LBITSTR of n bits have this size
 unfoldable pub longSize : ℕ → ℕ
@@ -52,3 +54,15 @@ counted (xtra n) = []
 unfoldable pub plainByte : ℕ → ℕ → ℕ
 unfolding ifEq
 plainByte k b = ifEq k 3 b (ifEq k 4 (0xfc + b) (ifEq k 5 0xfe (0xf8 + b)))
+
+-- the k rows from p on, each as the byte that is its last word above `low`
+unfoldable pub codesFrom : List ℕ → ℕ → ℕ → ℕ → List ℕ
+codesFrom w low p zero = []
+codesFrom w low p (suc k) = (low + bAt w p) ∷ codesFrom w low (p + 1) k
+
+-- the rows p up to q, not past `to`, are of one kind, and their last words are below `most`; they are one at least if row p is so
+pub record Alike (w : List ℕ) (kind most p to q : ℕ) : Type 0 where
+  pub start : p ≤ q
+  pub within : q ≤ to
+  pub each : (i : ℕ) → p ≤ i → i < q → (kindAt w i ≡ kind) × (bAt w i < most)
+  pub moves : p < to → kindAt w p ≡ kind → bAt w p < most → p < q

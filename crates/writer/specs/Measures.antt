@@ -1,22 +1,11 @@
--- The length of a normal form, where so many containers may stand inside one another, and the room for it.
+-- The room for a normal form, where so many containers may stand inside one another.
 use Prim.Native.Nat.{ℕ, suc, _+_, _≤_}
 use mathlib.Core.List.{List, _++_}
 use lib.ListN.{length, take, drop}
-use Rattle.writer.specs.declared.measure.Measured.{Measured}
-use Rattle.writer.specs.declared.measure.Measured.the-variants.{Deep, Length}
-use Rattle.format.specs.Choice.{pick, ifLt, ifEq}
+use Rattle.format.specs.Choice.{pick, ifEq}
 use Rattle.format.specs.Items.{Items, isString}
 use Rattle.format.specs.Normal.{withSize, normal, depth}
 use Rattle.writer.specs.Rows.{Run, itemsAt}
-
-unfoldable pub measured : ℕ → Items → Measured
-unfolding ifLt normal depth
-measured d xs = ifLt d (depth xs) Deep (Length (length (normal xs)))
-
--- a container of these elements, itself counted
-unfoldable pub boxed : ℕ → Items → Measured
-unfolding ifLt normal depth withSize
-boxed d c = ifLt d (suc (depth c)) Deep (Length (1 + length (withSize (normal c))))
 
 -- the items of a run are at most d deep, and their normal form has room in n bytes
 pub record Fits (w : List ℕ) (p e d n : ℕ) : Type 0 where

@@ -1,5 +1,5 @@
 -- The rows of a table by position: which items stand there, and whether each row is in order.
-use Prim.Native.Nat.{ℕ, zero, suc, _+_, _-_, _*_, _%_, _^_, _≤_, _<_}
+use Prim.Native.Nat.{ℕ, zero, suc, _+_, _-_, _*_, _%_, _^_, _≤_}
 use mathlib.Core.Path.{_≡_}
 use mathlib.Core.List.{List, _++_}
 use mathlib.Core.Bool.{Bool, true, false}
@@ -82,6 +82,19 @@ pub record Header (w : List ℕ) (r d : ℕ) : Type 0 where
   pub little : d ≤ 16384
   pub within : 3 * r + 4 + d ≤ length w
 
+abbrev pub rowsOf : List ℕ → ℕ
+rowsOf w = getD w 0 0
+
+abbrev pub wordsOf : List ℕ → ℕ
+wordsOf w = getD w 3 0
+
+abbrev pub Headed : List ℕ → Type 0
+Headed w = Header w (rowsOf w) (wordsOf w)
+
+abbrev pub HeaderJudged : List ℕ → Bool → Type 0
+HeaderJudged w true = Headed w
+HeaderJudged w false = Headed w → ⊥
+
 -- n items, each with its elements behind it, take the rows p up to e
 unfoldable pub lands : List ℕ → ℕ → ℕ → ℕ → Bool
 unfolding ifLt
@@ -117,13 +130,17 @@ edtRows w p e =
     false))
     false
 
+-- the kind of a STRUC, or of an EDT whose elements stand up to e
+unfoldable pub kindOk : List ℕ → ℕ → ℕ → Bool
+unfolding ifEq edtRows
+kindOk w p e = ifEq (kindAt w p) 7 true (ifEq (kindAt w p) 8 (edtRows w (p + 1) e) false)
+
 -- a STRUC or EDT among R rows
 unfoldable pub groupOk : List ℕ → ℕ → ℕ → Bool
-unfolding ifLt ifEq both lands edtRows
+unfolding ifLt both lands kindOk
 groupOk w R p =
     ifLt (R - (p + 1)) (bAt w p) false
-    (both (lands w (aAt w p) (p + 1) (p + 1 + bAt w p))
-    (ifEq (kindAt w p) 7 true (ifEq (kindAt w p) 8 (edtRows w (p + 1) (p + 1 + bAt w p)) false)))
+    (both (lands w (aAt w p) (p + 1) (p + 1 + bAt w p)) (kindOk w p (p + 1 + bAt w p)))
 
 -- "0 | value modulo 2^64", "0 | code, 0/1, 0-3", "0 | 0": how many values b can have
 unfoldable pub codes : ℕ → ℕ
@@ -168,13 +185,6 @@ BitsJudged w d a b D (Right n) = (bitsOk w d a b ≡ true) × (d + n ≤ D) × (
 abbrev pub RowJudged : List ℕ → ℕ → ℕ → ℕ → ℕ → Judged → Type 0
 RowJudged w p R D d Wrong = rowOk w R p ≡ false
 RowJudged w p R D d (Right n) = (rowOk w R p ≡ true) × (d + n ≤ D) × (d + n ≡ dataTo w (p + 1))
-
--- the rows p up to q, of R, are in order and take no data words
-pub record PlainRows (w : List ℕ) (R p q : ℕ) : Type 0 where
-  pub start : p ≤ q
-  pub within : q ≤ R
-  pub each : (i : ℕ) → p ≤ i → i < q → rowOk w R i ≡ true
-  pub none : dataTo w q ≡ dataTo w p
 
 unfoldable pub isSome : Option Items → Bool
 isSome none = false

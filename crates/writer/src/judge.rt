@@ -4,7 +4,7 @@ ghost use mathlib.Core.Bool.{true};
 ghost use Prim.Native.Nat.{_+_, _*_, _^_, _≤_, _<_};
 ghost use lib.ListN.{length, getD};
 ghost use Rattle.format.specs.Tables.{itemsOf};
-ghost use Rattle.writer.specs.Rows.{Room, Header, kindAt, aAt, bAt, lands, allChars, intAt, edtRows, groupOk, codes, plainOk, dataTo, BitsJudged, RowJudged, PlainRows, isSome};
+ghost use Rattle.writer.specs.Rows.{Room, Header, HeaderJudged, kindAt, aAt, bAt, lands, allChars, intAt, edtRows, kindOk, groupOk, codes, plainOk, dataTo, BitsJudged, RowJudged, isSome};
 
 // A row: wrong, or right with the data words that it takes.
 pub enum Judged {
@@ -37,12 +37,37 @@ pub fn lands(table: &[u64], from: usize, to: usize, count: u64) -> bool
     p == to
 }
 
+// 0 where the row `p` is a CHAR, otherwise some number.
+fn no_char(table: &[u64], p: usize) -> u64
+    requires { ⌜ Room (now table) (p + 1) (p + 1) ⌝ }
+    ensures { λ r. ⌜ (r ≡ 0 → kindAt (now (table .entry)) p ≡ 3) ⌝ }
+{
+    table[3 * p + 4] ^ 3
+}
+
+// How far from `from` on the rows are CHARs, four at a time.
+fn fours_of_chars(table: &[u64], from: usize, to: usize) -> usize
+    requires { ⌜ Room (now table) from to ⌝ }
+    ensures { λ r. ⌜ (r ≤ to) × (allChars (now (table .entry)) from to ≡ allChars (now (table .entry)) r to) ⌝ }
+{
+    let mut p = from;
+    while to - p >= 4 {
+        let first = no_char(table, p) | no_char(table, p + 1);
+        let second = no_char(table, p + 2) | no_char(table, p + 3);
+        if first | second != 0 {
+            return p;
+        }
+        p += 4;
+    }
+    p
+}
+
 // Whether every row from `from` up to `to` is a CHAR.
 pub fn all_chars(table: &[u64], from: usize, to: usize) -> bool
     requires { ⌜ Room (now table) from to ⌝ }
     ensures { λ r. ⌜ r ≡ allChars (now (table .entry)) from to ⌝ }
 {
-    let mut p = from;
+    let mut p = fours_of_chars(table, from, to);
     while p < to {
         if table[3 * p + 4] != 3 {
             return false;
@@ -89,25 +114,33 @@ fn edt_rows(table: &[u64], from: usize, to: usize) -> bool
     false
 }
 
-// Whether the row `p`, one of the kinds from 7 up, is a STRUC or an EDT with the elements that it claims.
-fn group_ok(table: &[u64], p: usize, rows: usize) -> bool
-    requires { ⌜ Room (now table) p rows × (p < rows) ⌝ }
-    ensures { λ r. ⌜ r ≡ groupOk (now (table .entry)) rows p ⌝ }
+// Whether the row `p`, whose elements stand up to `to`, has the kind of a STRUC, or that of an EDT and the elements of one.
+pub fn kind_ok(table: &[u64], p: usize, to: usize) -> bool
+    requires { ⌜ Room (now table) (p + 1) to ⌝ }
+    ensures { λ r. ⌜ r ≡ kindOk (now (table .entry)) p to ⌝ }
 {
     let kind = table[3 * p + 4];
-    let beneath = table[3 * p + 6] as usize;
-    if rows - (p + 1) < beneath {
-        return false;
-    }
-    let to = p + 1 + beneath;
-    if !lands(table, p + 1, to, table[3 * p + 5]) {
-        return false;
-    }
     if kind == 7 {
         return true;
     }
     if kind == 8 {
         return edt_rows(table, p + 1, to);
+    }
+    false
+}
+
+// Whether the row `p`, one of the kinds from 7 up, is a STRUC or an EDT with the elements that it claims.
+fn group_ok(table: &[u64], p: usize, rows: usize) -> bool
+    requires { ⌜ Room (now table) p rows × (p < rows) ⌝ }
+    ensures { λ r. ⌜ r ≡ groupOk (now (table .entry)) rows p ⌝ }
+{
+    let beneath = table[3 * p + 6] as usize;
+    if rows - (p + 1) < beneath {
+        return false;
+    }
+    let to = p + 1 + beneath;
+    if lands(table, p + 1, to, table[3 * p + 5]) {
+        return kind_ok(table, p, to);
     }
     false
 }
@@ -132,7 +165,7 @@ fn codes(kind: u64) -> u64
     0
 }
 
-fn plain_ok(kind: u64, a: u64, b: u64) -> bool
+pub fn plain_ok(kind: u64, a: u64, b: u64) -> bool
     ensures { λ r. ⌜ r ≡ plainOk kind a b ⌝ }
 {
     if a != 0 {
@@ -152,7 +185,7 @@ fn power(k: usize) -> u64
 }
 
 // The row of a BITS, where `past` data words came before it.
-fn bits_row(table: &[u64], p: usize, rows: usize, words: usize, past: usize) -> Judged
+pub fn bits_row(table: &[u64], p: usize, rows: usize, words: usize, past: usize) -> Judged
     requires { ⌜ Header (now table) rows words × (p < rows) × (past ≤ words) ⌝ }
     ensures { λ r. ⌜ BitsJudged (now (table .entry)) past (aAt (now (table .entry)) p) (bAt (now (table .entry)) p) words r ⌝ }
 {
@@ -192,34 +225,8 @@ fn judge_row(table: &[u64], p: usize, rows: usize, words: usize, past: usize) ->
     Judged::Wrong
 }
 
-// How far from `p` on each row is an INT or a CHAR in order: most rows are.
-fn plain_until(table: &[u64], p: usize, rows: usize) -> usize
-    requires { ⌜ Room (now table) p rows ⌝ }
-    ensures { λ r. ⌜ PlainRows (now (table .entry)) rows p r ⌝ }
-{
-    let mut q = p;
-    while q < rows {
-        let kind = table[3 * q + 4];
-        if table[3 * q + 5] != 0 {
-            return q;
-        }
-        if kind == 1 {
-            q += 1;
-            continue;
-        }
-        if kind != 3 {
-            return q;
-        }
-        if table[3 * q + 6] >= 128 {
-            return q;
-        }
-        q += 1;
-    }
-    q
-}
-
 // Whether the rows and data words behind a header in order are those of its items.
-fn rows_ok(table: &[u64], rows: usize, words: usize) -> bool
+pub fn rows_ok(table: &[u64], rows: usize, words: usize) -> bool
     requires { ⌜ Header (now table) rows words ⌝ }
     ensures { λ r. ⌜ r ≡ isSome (itemsOf (now (table .entry))) ⌝ }
 {
@@ -229,44 +236,38 @@ fn rows_ok(table: &[u64], rows: usize, words: usize) -> bool
     let mut p: usize = 0;
     let mut past: usize = 0;
     while p < rows {
-        let q = plain_until(table, p, rows);
-        if q == rows {
-            p = q;
-            continue;
-        }
-        let one = judge_row(table, q, rows, words, past);
+        let one = judge_row(table, p, rows, words, past);
         match one {
             Judged::Wrong => return false,
             Judged::Right(n) => {
                 past += n;
-                p = q + 1;
+                p += 1;
             }
         }
     }
     past == words
 }
 
-pub fn well_formed(table: &[u64]) -> bool
-    ensures { λ r. ⌜ r ≡ isSome (itemsOf (now (table .entry))) ⌝ }
+// Whether the first four words are the header of rows and data words that are all there.
+pub fn header_ok(table: &[u64]) -> bool
+    ensures { λ r. ⌜ HeaderJudged (now (table .entry)) r ⌝ }
 {
     if table.len() < 4 {
         return false;
     }
-    let r = table[0];
-    if r > 16384 {
+    let rows = table[0];
+    if rows > 16384 {
         return false;
     }
-    if table[2] != 4 + 3 * r {
+    if table[2] != 4 + 3 * rows {
         return false;
     }
-    let d = table[3];
-    if d > 16384 {
+    let words = table[3];
+    if words > 16384 {
         return false;
     }
-    let rows = r as usize;
-    let words = d as usize;
-    if table.len() < 3 * rows + 4 + words {
+    if table.len() < 3 * (rows as usize) + 4 + (words as usize) {
         return false;
     }
-    rows_ok(table, rows, words)
+    true
 }

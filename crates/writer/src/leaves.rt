@@ -9,13 +9,15 @@ ghost use Rattle.writer.specs.Rows.{kindAt, aAt, leafAt, LeafAt};
 ghost use Rattle.writer.specs.Forms.{bitsLength, marker, leafBytes, counted, plainByte};
 use crate::numbers::int_length;
 use crate::numbers::put_int;
+use crate::numbers::put_low;
 use crate::numbers::put_size;
 use crate::numbers::put_tagged;
+use crate::numbers::put_word;
 use crate::numbers::size_length;
 use crate::numbers::width;
 
 // How many bytes a BITS of `n` bits takes.
-fn bits_length(n: usize) -> usize
+pub fn bits_length(n: usize) -> usize
     requires { ⌜ n ≤ 1048576 ⌝ }
     ensures { λ r. ⌜ r ≡ bitsLength n ⌝ }
 {
@@ -24,20 +26,6 @@ fn bits_length(n: usize) -> usize
     }
     let size = int_length(n as u64) + (n + 7) / 8;
     1 + size_length(size) + size
-}
-
-pub fn leaf_length(table: &[u64], p: usize) -> usize
-    requires { ⌜ LeafAt (now table) p ⌝ }
-    ensures { λ r. ⌜ r ≡ length (normalLeaf (leafAt (now (table .entry)) p)) ⌝ }
-{
-    let kind = table[3 * p + 4];
-    if kind == 1 {
-        return int_length(table[3 * p + 6]);
-    }
-    if kind == 2 {
-        return bits_length(table[3 * p + 5] as usize);
-    }
-    1
 }
 
 // The bits of a BITS of fewer than 64, with a 1 before them, as a number.
@@ -65,18 +53,28 @@ fn put_short(table: &[u64], p: usize, out: &mut [u8]) -> usize
     1 + k
 }
 
-// The bits of a BITS, left-adjusted in bytes.
+// The bits of a BITS, left-adjusted in bytes: the whole words among them, and then the first bytes of a last word.
 fn put_bytes(table: &[u64], p: usize, out: &mut [u8])
     requires { ⌜ LeafAt (now table) p × (kindAt (now table) p ≡ 2) × (length (leafBytes (leafAt (now table) p)) ≤ length (now out)) ⌝ }
     ensures { λ r. ⌜ now (out .exit) ≡ over (leafBytes (leafAt (now (table .entry)) p)) (now (out .entry)) ⌝ }
 {
     let first = 3 * (table[0] as usize) + 4 + (table[3 * p + 6] as usize);
     let bytes = ((table[3 * p + 5] as usize) + 7) / 8;
+    let words = bytes / 8;
     let mut i: usize = 0;
-    while i < bytes {
-        let word = table[first + i / 8];
-        out[i] = ((word >> (56 - 8 * ((i % 8) as u64))) % 256) as u8;
+    while i < words {
+        let at = 8 * i;
+        put_word(&mut out[at..], table[first + i]);
         i += 1;
+    }
+    let rest = bytes % 8;
+    if rest > 0 {
+        let at = 8 * words;
+        put_low(
+            &mut out[at..],
+            rest,
+            table[first + words] >> (64 - 8 * (rest as u64)),
+        );
     }
 }
 

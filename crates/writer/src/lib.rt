@@ -1,17 +1,20 @@
 // The normal form of the items in a table: its length, and its bytes; or the number with which the table is refused.
 mod judge;
 mod leaves;
-mod measure;
 mod numbers;
 mod put;
+mod survey;
 
 ghost use mathlib.Core.Path.{_≡_};
 ghost use Rattle.format.specs.Answers.{normalLength, writing};
+ghost use Rattle.writer.specs.Rows.{Header};
+ghost use Rattle.writer.specs.Surveys.{TooDeep};
 ghost use Rattle.writer.specs.Verdicts.{verdict};
-use crate::judge::well_formed;
-use crate::measure::Measured;
-use crate::measure::run_length;
+use crate::judge::header_ok;
+use crate::judge::rows_ok;
 use crate::put::write_run;
+use crate::survey::Surveyed;
+use crate::survey::survey_run;
 
 // A number by the shears, and the length that was written (0) or is needed (15); with other numbers it is 0.
 pub struct Written {
@@ -25,22 +28,41 @@ enum Verdict {
     Normal(usize),
 }
 
+// A table whose items, if it has any, stand too deep: so deep that the survey gave up, and each row is judged by itself.
+fn too_deep(table: &[u64], rows: usize, words: usize) -> Verdict
+    requires { ⌜ Header (now table) rows words ⌝ }
+    requires { ⌜ TooDeep (now table) words 16 0 0 rows ⌝ }
+    ensures { λ r. ⌜ r ≡ verdict (now (table .entry)) ⌝ }
+{
+    if rows_ok(table, rows, words) {
+        return Verdict::Refused(13);
+    }
+    Verdict::Refused(12)
+}
+
 fn judge_table(table: &[u64]) -> Verdict
     ensures { λ r. ⌜ r ≡ verdict (now (table .entry)) ⌝ }
 {
-    if !well_formed(table) {
+    if !header_ok(table) {
         return Verdict::Refused(12);
     }
     let rows = table[0] as usize;
-    let found = run_length(table, 0, rows, 16);
+    let words = table[3] as usize;
+    let found = survey_run(table, 0, rows, 0, 16);
     match found {
-        Measured::Deep => Verdict::Refused(13),
-        Measured::Length(n) => {
-            if n > 65536 {
-                Verdict::Refused(14)
-            } else {
-                Verdict::Normal(n)
+        Surveyed::Wrong => Verdict::Refused(12),
+        Surveyed::Deep => too_deep(table, rows, words),
+        Surveyed::Whole(n, count, past) => {
+            if count != table[1] {
+                return Verdict::Refused(12);
             }
+            if past != words {
+                return Verdict::Refused(12);
+            }
+            if n > 65536 {
+                return Verdict::Refused(14);
+            }
+            Verdict::Normal(n)
         }
     }
 }

@@ -12,13 +12,10 @@ ghost use Rattle.format.specs.Answers.{over};
 pub fn width(n: u64) -> usize
     ensures { λ r. ⌜ (r ≡ width n) × (r ≤ 8) ⌝ }
 {
-    let mut x = n;
-    let mut w: usize = 1;
-    while x >= 256 {
-        x = x / 256;
-        w += 1;
+    if n < 256 {
+        return 1;
     }
-    w
+    (71 - u64::leading_zeros(n) as usize) / 8
 }
 
 // How many bytes the size field of `n` bytes takes.
@@ -63,8 +60,19 @@ pub fn int_length(v: u64) -> usize
     1 + width(doubled(value_of(v)))
 }
 
-// The low `k` bytes of `n`, the high byte first.
-pub fn put_low(out: &mut [u8], k: usize, n: u64)
+// The low four bytes of `n`, the high byte first.
+fn put_four(out: &mut [u8], n: u64)
+    requires { ⌜ 4 ≤ length (now out) ⌝ }
+    ensures { λ r. ⌜ now (out .exit) ≡ over (be 4 (n % 256 ^ 4)) (now (out .entry)) ⌝ }
+{
+    out[0] = ((n >> 24) % 256) as u8;
+    out[1] = ((n >> 16) % 256) as u8;
+    out[2] = ((n >> 8) % 256) as u8;
+    out[3] = (n % 256) as u8;
+}
+
+// The low `k` bytes of `n`, the high byte first, one by one.
+fn put_each(out: &mut [u8], k: usize, n: u64)
     requires { ⌜ k ≤ length (now out) ⌝ }
     ensures { λ r. ⌜ now (out .exit) ≡ over (be k (n % 256 ^ k)) (now (out .entry)) ⌝ }
 {
@@ -77,9 +85,38 @@ pub fn put_low(out: &mut [u8], k: usize, n: u64)
     }
 }
 
+// The low `k` bytes of `n`, the high byte first; the first four together, where there are so many.
+pub fn put_low(out: &mut [u8], k: usize, n: u64)
+    requires { ⌜ (k ≤ 8) × (k ≤ length (now out)) ⌝ }
+    ensures { λ r. ⌜ now (out .exit) ≡ over (be k (n % 256 ^ k)) (now (out .entry)) ⌝ }
+{
+    if k < 4 {
+        put_each(out, k, n);
+        return;
+    }
+    let rest = k - 4;
+    put_four(out, n >> (8 * (rest as u64)));
+    put_each(&mut out[4..], rest, n);
+}
+
+// The eight bytes of a word, the high byte first.
+pub fn put_word(out: &mut [u8], n: u64)
+    requires { ⌜ 8 ≤ length (now out) ⌝ }
+    ensures { λ r. ⌜ now (out .exit) ≡ over (be 8 n) (now (out .entry)) ⌝ }
+{
+    out[0] = (n >> 56) as u8;
+    out[1] = ((n >> 48) % 256) as u8;
+    out[2] = ((n >> 40) % 256) as u8;
+    out[3] = ((n >> 32) % 256) as u8;
+    out[4] = ((n >> 24) % 256) as u8;
+    out[5] = ((n >> 16) % 256) as u8;
+    out[6] = ((n >> 8) % 256) as u8;
+    out[7] = (n % 256) as u8;
+}
+
 // A first byte, and the low `k` bytes of `n` behind it.
 pub fn put_tagged(out: &mut [u8], tag: usize, k: usize, n: u64)
-    requires { ⌜ (tag < 256) × (k < length (now out)) ⌝ }
+    requires { ⌜ (tag < 256) × (k ≤ 8) × (k < length (now out)) ⌝ }
     ensures { λ r. ⌜ now (out .exit) ≡ over (tag ∷ be k (n % 256 ^ k)) (now (out .entry)) ⌝ }
 {
     out[0] = tag as u8;

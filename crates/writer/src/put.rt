@@ -2,13 +2,14 @@
 // string's a second time.
 ghost use mathlib.Core.Path.{_≡_};
 ghost use mathlib.Core.Bool.{true};
-ghost use mathlib.Core.List.{_∷_};
-ghost use Prim.Native.Nat.{_+_, _≤_};
-ghost use lib.ListN.{length};
+ghost use mathlib.Core.List.{_∷_, _++_};
+ghost use Prim.Native.Nat.{_+_, _-_, _*_, _≤_};
+ghost use lib.ListN.{length, take, drop};
 ghost use Rattle.format.specs.Normal.{normal, withSize};
 ghost use Rattle.format.specs.Answers.{over};
 ghost use Rattle.writer.specs.Rows.{Run, itemsAt, allChars};
 ghost use Rattle.writer.specs.Measures.{Fits, FitsBox, headByte, moved};
+ghost use Rattle.writer.specs.Forms.{codesFrom, Alike};
 use crate::judge::all_chars;
 use crate::leaves::put_head;
 use crate::leaves::put_leaf;
@@ -70,6 +71,49 @@ fn head_byte(table: &[u64], kind: u64, from: usize, to: usize) -> u8
     0xc2
 }
 
+// Items of one byte: those of one kind whose last word is below `most`. The byte is `low` plus that word.
+struct Single {
+    kind: u64,
+    most: u64,
+    low: u64,
+}
+
+const CHARS: Single = Single {
+    kind: 3,
+    most: 128,
+    low: 0,
+};
+
+const INTS: Single = Single {
+    kind: 1,
+    most: 64,
+    low: 0x80,
+};
+
+// The rows from `p` on that are such items, as bytes from `n` on. The answer is the first row that is not, or `to`.
+fn put_singles(table: &[u64], p: usize, to: usize, one: Single, out: &mut [u8], n: usize) -> usize
+    requires { ⌜ (p ≤ to) × (3 * to + 4 ≤ length (now table)) × (n + (to - p) ≤ length (now out)) × (one .low + one .most ≤ 256) ⌝ }
+    ensures { λ q. ⌜ Alike (now (table .entry)) (one .kind) (one .most) p to q ⌝ }
+    ensures { λ q. ⌜ now (out .exit) ≡ take n (now (out .entry)) ++ over (codesFrom (now (table .entry)) (one .low) p (q - p)) (drop n (now (out .entry))) ⌝ }
+{
+    let kind = one.kind;
+    let most = one.most;
+    let low = one.low;
+    let mut q = p;
+    while q < to {
+        if table[3 * q + 4] != kind {
+            return q;
+        }
+        let b = table[3 * q + 6];
+        if b >= most {
+            return q;
+        }
+        out[n + (q - p)] = (low + b) as u8;
+        q += 1;
+    }
+    q
+}
+
 // The elements are written first, behind room for the fewest size bytes that so many rows can need, and moved on if their
 // size takes more.
 fn write_container(
@@ -106,6 +150,20 @@ pub fn write_run(table: &[u64], from: usize, to: usize, depth: usize, out: &mut 
     let mut n: usize = 0;
     while p < to {
         let kind = table[3 * p + 4];
+        if kind == 3 {
+            let q = put_singles(table, p, to, CHARS, out, n);
+            n += q - p;
+            p = q;
+            continue;
+        }
+        if kind == 1 {
+            if table[3 * p + 6] < 64 {
+                let q = put_singles(table, p, to, INTS, out, n);
+                n += q - p;
+                p = q;
+                continue;
+            }
+        }
         if kind < 7 {
             let bytes = put_leaf(table, p, &mut out[n..]);
             n += bytes;

@@ -97,7 +97,6 @@ impl Checker {
         self.must(false, || told() + &answers + &differences.concat());
     }
 
-    #[cfg(has_read)]
     pub fn reading(&mut self, message: &[u8], room: usize) -> second::Reading {
         let expected = second::read(message, self.table.second.room(room));
         give(&mut self.message, message);
@@ -113,7 +112,6 @@ impl Checker {
         answer
     }
 
-    #[cfg(has_write)]
     pub fn writing(&mut self, table: &[u64], room: usize) -> second::Writing {
         let expected = second::write(table, self.output.second.room(room));
         give(&mut self.given, table);
@@ -129,7 +127,6 @@ impl Checker {
         answer
     }
 
-    #[cfg(has_normal_length)]
     pub fn normal_length(&mut self, table: &[u64]) -> second::Writing {
         let expected = second::normal_length(table);
         give(&mut self.given, table);
@@ -144,7 +141,6 @@ impl Checker {
         answer
     }
 
-    #[cfg(has_normalise)]
     pub fn normalising(
         &mut self,
         message: &[u8],

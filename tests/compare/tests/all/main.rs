@@ -3,12 +3,6 @@
 //! `SEED=12` takes another seed for what is made by chance, `ROUNDS=10` ten
 //! times as many rounds of it.
 
-// While an operation is not in the archive, some of what tests it is not used.
-#![cfg_attr(
-    not(all(has_read, has_write, has_normal_length, has_normalise)),
-    allow(unused)
-)]
-
 mod checker;
 mod damage;
 mod forms_by_chance;
@@ -40,26 +34,16 @@ mod notation;
 #[path = "../../../../second/tests/all/plain/mod.rs"]
 mod plain;
 
-#[cfg(has_read)]
 mod reading;
-#[cfg(has_read)]
 mod reading_hostile;
-#[cfg(has_read)]
 mod reading_limits;
 
-#[cfg(any(has_write, has_normal_length))]
 mod writing;
-#[cfg(any(has_write, has_normal_length))]
 mod writing_corrupted;
-#[cfg(any(has_write, has_normal_length))]
 mod writing_limits;
-#[cfg(any(has_write, has_normal_length))]
 mod writing_small_tables;
 
-#[cfg(has_normalise)]
 mod normalising;
-#[cfg(has_normalise)]
 mod normalising_pairs;
 
-mod absent;
 mod refusals_page;

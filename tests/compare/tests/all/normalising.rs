@@ -6,7 +6,7 @@ use crate::damage::{damaged, TELLING};
 use crate::every::every_run;
 use crate::repeat_objects::has_repeat;
 use crate::rooms::{AMPLE_BYTES, AMPLE_WORDS};
-use crate::small_stack::{in_both_stacks, in_small_stack, report, rounds, AT_ONCE};
+use crate::small_stack::{by_chance, in_both_stacks, in_small_stack, report};
 use crate::vector_files::{with_key, Vector};
 use crate::{hostile, makers, told};
 use std::collections::HashMap;
@@ -108,19 +108,8 @@ fn every_short_message_and_the_shortest_form() {
 }
 
 /// Normalises many messages that a maker makes, in every room.
-fn many(test: &str, usual: usize, make: impl Fn(&mut Chance) -> Vec<u8>) {
-    let mut chance = Chance::seeded(test);
-    let mut checker = Checker::new();
-    let rounds = rounds(usual);
-    for _ in 0..rounds {
-        let messages: Vec<_> = (0..AT_ONCE).map(|_| make(&mut chance)).collect();
-        in_small_stack(&mut checker, |checker| {
-            messages
-                .iter()
-                .for_each(|message| checker.normalising_in_every_room(message));
-        });
-    }
-    report(test, (rounds * AT_ONCE) as u64, &checker);
+fn many(test: &str, usual: usize, make: impl FnMut(&mut Chance) -> Vec<u8>) {
+    by_chance(test, usual, make, Checker::normalising_in_every_room);
 }
 
 #[test]

@@ -5,7 +5,7 @@ use crate::checker::Checker;
 use crate::damage::{damaged, TELLING};
 use crate::every::every_run;
 use crate::rooms::AMPLE_WORDS;
-use crate::small_stack::{in_both_stacks, in_small_stack, report, rounds, AT_ONCE};
+use crate::small_stack::{by_chance, in_both_stacks, in_small_stack, report};
 use crate::vector_files::{with_key, Vector};
 use crate::{forms_by_chance, hostile, items_by_chance, makers};
 
@@ -77,19 +77,8 @@ fn every_nesting_message_of_six_bytes() {
 }
 
 /// Reads many messages that a maker makes, in every room.
-fn many(test: &str, usual: usize, mut make: impl FnMut(&mut Chance) -> Vec<u8>) {
-    let mut chance = Chance::seeded(test);
-    let mut checker = Checker::new();
-    let rounds = rounds(usual);
-    for _ in 0..rounds {
-        let messages: Vec<_> = (0..AT_ONCE).map(|_| make(&mut chance)).collect();
-        in_small_stack(&mut checker, |checker| {
-            messages
-                .iter()
-                .for_each(|message| checker.reading_in_every_room(message));
-        });
-    }
-    report(test, (rounds * AT_ONCE) as u64, &checker);
+fn many(test: &str, usual: usize, make: impl FnMut(&mut Chance) -> Vec<u8>) {
+    by_chance(test, usual, make, Checker::reading_in_every_room);
 }
 
 #[test]

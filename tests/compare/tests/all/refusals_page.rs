@@ -2,8 +2,6 @@
 //! number once and in order, every answer as the page has it, and nothing
 //! smaller than what it calls the smallest.
 
-#![cfg(all(has_read, has_write, has_normal_length))]
-
 use crate::checker::Checker;
 use crate::every::every_run;
 use crate::objects;

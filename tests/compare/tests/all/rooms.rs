@@ -19,7 +19,6 @@ fn rooms(needed: usize) -> Vec<usize> {
 }
 
 impl Checker {
-    #[cfg(has_read)]
     pub fn reading_in_every_room(&mut self, message: &[u8]) {
         let needed = second::read(message, &mut []).words as usize;
         for room in rooms(needed) {
@@ -28,11 +27,8 @@ impl Checker {
     }
 
     /// Writes in every room, and asks for the normal length.
-    #[cfg(any(has_write, has_normal_length))]
     pub fn writing_in_every_room(&mut self, table: &[u64]) {
-        #[cfg(has_normal_length)]
         self.normal_length(table);
-        #[cfg(has_write)]
         for room in rooms(second::normal_length(table).length as usize) {
             self.writing(table, room);
         }
@@ -40,7 +36,6 @@ impl Checker {
 
     /// Every room for the table with ample output, and every room for the
     /// output with just the table needed.
-    #[cfg(has_normalise)]
     pub fn normalising_in_every_room(&mut self, message: &[u8]) {
         let words = second::read(message, &mut []).words as usize;
         for room in rooms(words) {

@@ -1,5 +1,6 @@
 //! Every call of the library is made in a thread with a small stack.
 
+use crate::chance::Chance;
 use crate::checker::Checker;
 use std::thread;
 
@@ -40,4 +41,23 @@ pub fn rounds(usual: usize) -> usize {
 /// Tells how much a test has compared.
 pub fn report(test: &str, cases: u64, checker: &Checker) {
     println!("{test}: {cases} cases, {} calls", checker.calls);
+}
+
+/// Checks many messages that a maker makes by chance.
+pub fn by_chance(
+    test: &str,
+    usual: usize,
+    mut make: impl FnMut(&mut Chance) -> Vec<u8>,
+    check: fn(&mut Checker, &[u8]),
+) {
+    let mut chance = Chance::seeded(test);
+    let mut checker = Checker::new();
+    let rounds = rounds(usual);
+    for _ in 0..rounds {
+        let messages: Vec<_> = (0..AT_ONCE).map(|_| make(&mut chance)).collect();
+        in_small_stack(&mut checker, |checker| {
+            messages.iter().for_each(|message| check(checker, message));
+        });
+    }
+    report(test, (rounds * AT_ONCE) as u64, &checker);
 }

@@ -28,7 +28,6 @@ fn agree_with(checker: &mut Checker, vector: &Vector) {
     let table = vector.block.words("table").expect("a table");
     let expected = vector.block.words("write").expect("what writing answers");
     let name = &vector.name;
-    #[cfg(has_write)]
     {
         let answer = checker.writing(&table, vector.lent("room", AMPLE_BYTES));
         let same = [answer.number, answer.length][..] == expected[..];
@@ -37,7 +36,6 @@ fn agree_with(checker: &mut Checker, vector: &Vector) {
         let same = checker.output().starts_with(&bytes);
         checker.must(same, || format!("{name}: not these bytes"));
     }
-    #[cfg(has_normal_length)]
     {
         let answer = checker.normal_length(&table);
         let number = if expected[0] == 15 { 0 } else { expected[0] };
@@ -75,7 +73,6 @@ fn many(test: &str, usual: usize, mut make: impl FnMut(&mut Chance) -> Vec<u64>)
 fn with_and_without(checker: &mut Checker, table: &[u64], tail: &[u64]) {
     checker.writing_in_every_room(table);
     let longer = [table, tail].concat();
-    #[cfg(has_write)]
     {
         let answer = checker.writing(table, 300);
         let bytes = checker.output().to_vec();
@@ -84,7 +81,6 @@ fn with_and_without(checker: &mut Checker, table: &[u64], tail: &[u64]) {
             format!("words past the data matter: {}", told::words(&longer))
         });
     }
-    #[cfg(has_normal_length)]
     {
         let answer = checker.normal_length(table);
         let same = checker.normal_length(&longer) == answer;

@@ -17,14 +17,12 @@ fn agree(test: &str, cases: &[Case]) {
     let mut checker = Checker::new();
     in_both_stacks(&mut checker, |checker| {
         for (table, number) in cases {
-            #[cfg(has_write)]
             {
                 let answer = checker.writing(table, crate::rooms::AMPLE_BYTES);
                 let told = || format!("{number} due, not {answer:?}: {}", told::words(table));
                 checker.must(answer.number == *number, told);
             }
             checker.writing_in_every_room(table);
-            #[cfg(has_normal_length)]
             {
                 let answer = checker.normal_length(table);
                 let told = || format!("{number} due, not {answer:?}: {}", told::words(table));
@@ -185,13 +183,11 @@ fn edges_of_the_paper() {
         for (item, begins, length) in edges() {
             let table = tables::table(&[item]);
             checker.writing_in_every_room(&table);
-            #[cfg(has_normal_length)]
             {
                 let answer = checker.normal_length(&table);
                 let same = answer.length == length as u64;
                 checker.must(same, || format!("{length} bytes due: {answer:?}"));
             }
-            #[cfg(has_write)]
             {
                 let answer = checker.writing(&table, length);
                 let same = answer.length == length as u64 && checker.output().starts_with(&begins);

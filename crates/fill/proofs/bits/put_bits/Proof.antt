@@ -37,19 +37,19 @@ part-word-of-start c = omega arith
 part-word-of-end : tie.Need-part-word-of-end Inv-loop μ-loop
 part-word-of-end c = search needs
 
-mul-at-most-64 : tie.Need-mul-at-most-64 Inv-loop μ-loop
-mul-at-most-64 c = search needs
+mul-least : tie.Need-mul-least Inv-loop μ-loop
+mul-least c = search needs
 
-sub-at-most-64 : tie.Need-sub-at-most-64 Inv-loop μ-loop
-sub-at-most-64 c = search needs
+sub-least : tie.Need-sub-least Inv-loop μ-loop
+sub-least c = search needs
 
-at-most-64-requires : tie.Need-at-most-64-requires Inv-loop μ-loop
-at-most-64-requires c κs = search needs
+least-requires : tie.Need-least-requires Inv-loop μ-loop
+least-requires c κs = search needs
 
 word-of-requires : tie.Need-word-of-requires Inv-loop μ-loop
 unfolding bytesFor wordsFor
 word-of-requires c κs =
-    let e = c .at-most-64 .ensures in
+    let e = c .least .ensures in
     (omega arith, omega arith, simp (length-take, length-drop) (omega arith))
 
 mul-table : tie.Need-mul-table Inv-loop μ-loop
@@ -67,7 +67,7 @@ loop-less c = search needs
 loop-again : tie.Need-loop-again Inv-loop μ-loop
 unfolding wordsFor
 loop-again c =
-    let e = c .before .at-most-64 .ensures in (
+    let e = c .before .least .ensures in (
       refl,
       omega arith,
       simp length-set (c .before .before .before .before .loop .inv .2),
@@ -95,9 +95,9 @@ put-bits-spec =
     sub-word-of
     part-word-of-start
     part-word-of-end
-    mul-at-most-64
-    sub-at-most-64
-    at-most-64-requires
+    mul-least
+    sub-least
+    least-requires
     word-of-requires
     mul-table
     slice-write-table

@@ -9,23 +9,23 @@ use borrow.Author.Needs.{needs}
 use Rattle.fill.proofs.bits.word_of.Statement.{statement}
 use Rattle.fill.proofs.bits.word_of.Tie as tie
 
-number-requires : tie.Need-number-requires
+word-at-requires : tie.Need-word-at-requires
 unfolding bytesFor
-number-requires c κs = (omega arith, omega arith)
+word-at-requires c κs = omega arith
 
 returns : tie.Need-returns
 unfolding bytesFor
 returns c =
     let s = c .before .before .before .args .c .now in
-    full-word s (c .number .result) (bytes-of s (λ i. omega (arith, c .before .before .shared-slice-known .given i))) (omega arith) (c .number .ensures .0)
+    full-word s (c .word-at .result) (λ i. omega (arith, c .before .before .shared-slice-known .given i)) (omega arith) (c .word-at .ensures)
     ∙ ap (λ n. adjusted 64 (take n (spread 8 s))) (sym (c .before .if1 .taken))
 
 add-k : tie.Need-add-k
 add-k c = search needs
 
-number-requires-2 : tie.Need-number-requires-2
+number-requires : tie.Need-number-requires
 unfolding bytesFor
-number-requires-2 c κs = (omega arith, omega arith)
+number-requires c κs = (omega arith, omega arith, omega arith)
 
 mul-result : tie.Need-mul-result
 mul-result c = search needs
@@ -46,16 +46,16 @@ returns-2 : tie.Need-returns-2
 unfolding bytesFor
 returns-2 c =
     let s = c .before .before .before .args .c .now in
-    part-word s (c .before .before .before .args .n) _ (c .number2 .result) (bytes-of s (λ i. omega (arith, c .before .before .shared-slice-known .given i))) (omega arith) (omega arith) (omega arith) (c .number2 .ensures .0)
+    part-word s (c .before .before .before .args .n) _ (c .number .result) (bytes-of s (λ i. omega (arith, c .before .before .shared-slice-known .given i))) (omega arith) (omega arith) (omega arith) (c .number .ensures .0)
 
 pub word-of-spec : {M : Type 1} → statement M
 word-of-spec =
     tie.close
     (tie.spec
-    number-requires
+    word-at-requires
     returns
     add-k
-    number-requires-2
+    number-requires
     mul-result
     sub-result
     shr-result

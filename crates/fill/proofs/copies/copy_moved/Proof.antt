@@ -1,99 +1,61 @@
--- The loop's invariant: the rows so far are those of the copies. Assumes nothing.
+-- The loop's invariant: so many copies are there. Assumes nothing.
+use Prim.Native.Nat.{_-_}
+use Rattle.fill.proofs.Doubling.{Doubled, doubled-start, round-room, moves-few, doubled-step, doubled-end}
 use borrow.Author.Needs.{needs}
 use native.Mathlib.Omega.{arith}
-use mathlib.Core.Path.{_≡_, refl}
-use Prim.Native.Nat.{_-_, _*_}
-use lib.ListN.{length-set}
-use Rattle.fill.proofs.CopyLaws.{Copying, copying-start, copying-step, copying-end}
 use Rattle.fill.proofs.copies.copy_moved.Statement.{statement}
 use Rattle.fill.proofs.copies.copy_moved.Tie as tie
 
 abbrev Inv-loop : tie.InvT-loop
-Inv-loop table₀ rows words k total j₀ table j = (total ≡ k * rows) × Copying words rows k table₀ table j
+Inv-loop table₀ rows words k done₀ table done = Doubled words rows k table₀ table done
 
 abbrev μ-loop : tie.MeasureT-loop
-μ-loop table₀ rows words k total j₀ table j = total - j
-
-mul-total : tie.Need-mul-total Inv-loop μ-loop
-mul-total c = search needs
+μ-loop table₀ rows words k done₀ table done = k - done
 
 loop-holds : tie.Need-loop-holds Inv-loop μ-loop
-loop-holds c = (refl, copying-start (c .before .args .words) (c .before .args .rows) (c .before .args .k) (c .before .args .table .now) (c .before .pre .0) (c .before .pre .1))
+loop-holds c = doubled-start _ _ _ _ (c .before .pre .0)
 
-sub-from : tie.Need-sub-from Inv-loop μ-loop
-sub-from c = search needs
+sub-least : tie.Need-sub-least Inv-loop μ-loop
+sub-least c = search needs
 
-mul-from : tie.Need-mul-from Inv-loop μ-loop
-mul-from c = search needs
+least-requires : tie.Need-least-requires Inv-loop μ-loop
+least-requires c κs = search needs
 
-mul-to : tie.Need-mul-to Inv-loop μ-loop
-mul-to c = search needs
+mul-copy-some : tie.Need-mul-copy-some Inv-loop μ-loop
+mul-copy-some c = omega (arith, round-room (c .before .before .before .before .before .args .rows) (c .before .before .before .before .before .args .k) (c .before .before .before .loop .done) (c .before .least .result) _ (c .before .before .before .before .before .pre .1) (omega arith) (omega arith))
 
-mul-kind : tie.Need-mul-kind Inv-loop μ-loop
-mul-kind c = search needs
+mul-copy-some-2 : tie.Need-mul-copy-some-2 Inv-loop μ-loop
+mul-copy-some-2 c = omega (arith, round-room (c .before .before .before .before .before .args .rows) (c .before .before .before .before .before .args .k) (c .before .before .before .loop .done) (c .before .least .result) _ (c .before .before .before .before .before .pre .1) (omega arith) (omega arith))
 
-slice-read-kind : tie.Need-slice-read-kind Inv-loop μ-loop
-slice-read-kind c = search needs
+mul-copy-some-3 : tie.Need-mul-copy-some-3 Inv-loop μ-loop
+mul-copy-some-3 c = omega (arith, round-room (c .before .before .before .before .before .args .rows) (c .before .before .before .before .before .args .k) (c .before .before .before .loop .done) (c .before .least .result) _ (c .before .before .before .before .before .pre .1) (omega arith) (omega arith))
 
-add-a : tie.Need-add-a Inv-loop μ-loop
-add-a c = search needs
+mul-copy-some-4 : tie.Need-mul-copy-some-4 Inv-loop μ-loop
+mul-copy-some-4 c = omega (arith, round-room (c .before .before .before .before .before .args .rows) (c .before .before .before .before .before .args .k) (c .before .before .before .loop .done) (c .before .least .result) _ (c .before .before .before .before .before .pre .1) (omega arith) (omega arith))
 
-mul-a : tie.Need-mul-a Inv-loop μ-loop
-mul-a c = search needs
+mul-copy-some-5 : tie.Need-mul-copy-some-5 Inv-loop μ-loop
+mul-copy-some-5 c = omega (arith, moves-few (c .before .before .before .before .before .args .words) (c .before .before .before .before .before .args .k) (c .before .before .before .loop .done) (c .before .before .before .before .before .pre .2) (omega arith))
 
-slice-read-a : tie.Need-slice-read-a Inv-loop μ-loop
-slice-read-a c = search needs
+copy-some-requires : tie.Need-copy-some-requires Inv-loop μ-loop
+copy-some-requires c κs =
+    let l = c .before .before .before .loop .inv .long in
+    let r = round-room (c .before .before .before .before .before .args .rows) (c .before .before .before .before .before .args .k) (c .before .before .before .loop .done) (c .before .least .result) _ (c .before .before .before .before .before .pre .1) (omega arith) (omega arith) in
+    (r .0, r .1, omega arith)
 
-add-b : tie.Need-add-b Inv-loop μ-loop
-add-b c = search needs
-
-mul-b : tie.Need-mul-b Inv-loop μ-loop
-mul-b c = search needs
-
-slice-read-b : tie.Need-slice-read-b Inv-loop μ-loop
-slice-read-b c = search needs
-
-mul-table : tie.Need-mul-table Inv-loop μ-loop
-mul-table c = search needs
-
-slice-write-table : tie.Need-slice-write-table Inv-loop μ-loop
-slice-write-table c = search needs
-
-add-table : tie.Need-add-table Inv-loop μ-loop
-add-table c = search needs
-
-mul-table-2 : tie.Need-mul-table-2 Inv-loop μ-loop
-mul-table-2 c = search needs
-
-slice-write-table-2 : tie.Need-slice-write-table-2 Inv-loop μ-loop
-slice-write-table-2 c = simp length-set (omega arith)
-
-shifted-requires : tie.Need-shifted-requires Inv-loop μ-loop
-shifted-requires c κs = search needs
-
-add-table-2 : tie.Need-add-table-2 Inv-loop μ-loop
-add-table-2 c = search needs
-
-mul-table-3 : tie.Need-mul-table-3 Inv-loop μ-loop
-mul-table-3 c = search needs
-
-slice-write-table-3 : tie.Need-slice-write-table-3 Inv-loop μ-loop
-slice-write-table-3 c = simp length-set (omega arith)
-
-add-j : tie.Need-add-j Inv-loop μ-loop
-add-j c = search needs
+add-done : tie.Need-add-done Inv-loop μ-loop
+add-done c = search needs
 
 loop-less : tie.Need-loop-less Inv-loop μ-loop
 loop-less c = search needs
 
 loop-again : tie.Need-loop-again Inv-loop μ-loop
-loop-again c = (c .before .before .before .before .before .loop .inv .0, copying-step (c .before .before .before .before .before .before .before .args .words) (c .before .before .before .before .before .before .before .args .rows) (c .before .before .before .before .before .before .before .args .k) (c .before .before .before .before .before .before .before .args .table .now) (c .before .before .before .before .before .loop .table) (c .before .before .before .before .before .loop .j) _ _ _ (c .before .before .before .before .before .before .before .pre .1) (omega arith) (c .before .before .before .before .before .loop .inv .1) refl refl (c .shifted .ensures))
+loop-again c = doubled-step _ _ _ _ _ _ _ _ (c .before .before .before .before .before .before .before .before .pre .1) (omega arith) (omega arith) (omega arith) (c .before .before .before .before .before .before .loop .inv) (c .before .before .copy-some .ensures)
 
 same-length : tie.Need-same-length Inv-loop μ-loop
 same-length c = search needs
 
 returns : tie.Need-returns Inv-loop μ-loop
-returns c = copying-end (c .before .before .before .args .words) (c .before .before .before .args .rows) (c .before .before .before .args .k) (c .before .before .before .args .table .now) (c .before .loop .table) (c .before .loop .j) (c .before .before .before .pre .0) (c .before .before .before .pre .1) (omega arith) (c .before .loop .inv .1)
+returns c = doubled-end _ _ _ _ _ _ (omega arith) (c .before .loop .inv)
 
 pub copy-moved-spec : {M : Type 1} → statement M
 copy-moved-spec =
@@ -101,29 +63,16 @@ copy-moved-spec =
     (tie.spec
     Inv-loop
     μ-loop
-    mul-total
     loop-holds
-    sub-from
-    mul-from
-    mul-to
-    mul-kind
-    slice-read-kind
-    add-a
-    mul-a
-    slice-read-a
-    add-b
-    mul-b
-    slice-read-b
-    mul-table
-    slice-write-table
-    add-table
-    mul-table-2
-    slice-write-table-2
-    shifted-requires
-    add-table-2
-    mul-table-3
-    slice-write-table-3
-    add-j
+    sub-least
+    least-requires
+    mul-copy-some
+    mul-copy-some-2
+    mul-copy-some-3
+    mul-copy-some-4
+    mul-copy-some-5
+    copy-some-requires
+    add-done
     loop-less
     loop-again
     same-length

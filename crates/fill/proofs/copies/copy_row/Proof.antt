@@ -3,7 +3,7 @@ use borrow.Author.Needs.{needs}
 use native.Mathlib.Omega.{arith}
 use Prim.Native.Nat.{_-_}
 use lib.ListN.{length-set}
-use Rattle.fill.proofs.CopyLaws.{copying-end}
+use Rattle.fill.proofs.Doubling.{doubled-end}
 use Rattle.fill.proofs.RowFill.{Filling, filling-start, filling-step}
 use Rattle.fill.proofs.copies.copy_row.Statement.{statement}
 use Rattle.fill.proofs.copies.copy_row.Tie as tie
@@ -24,7 +24,7 @@ slice-read-b : tie.Need-slice-read-b Inv-loop μ-loop
 slice-read-b c = search needs
 
 loop-holds : tie.Need-loop-holds Inv-loop μ-loop
-loop-holds c = filling-start (c .before .before .before .args .k) (c .before .before .before .args .table .now) (c .before .before .before .pre .0) (c .before .before .before .pre .1) (omega (arith, c .slice-known3 .given 2))
+loop-holds c = filling-start (c .before .before .before .args .k) (c .before .before .before .args .table .now) (c .before .before .before .pre .0) (omega (arith, c .slice-known3 .given 2))
 
 mul-to : tie.Need-mul-to Inv-loop μ-loop
 mul-to c = search needs
@@ -66,7 +66,7 @@ same-length : tie.Need-same-length Inv-loop μ-loop
 same-length c = search needs
 
 returns : tie.Need-returns Inv-loop μ-loop
-returns c = copying-end 0 1 (c .before .before .before .before .before .args .k) (c .before .before .before .before .before .args .table .now) (c .before .loop .table) (c .before .loop .j) (c .before .before .before .before .before .pre .0) (c .before .before .before .before .before .pre .1) (omega arith) (c .before .loop .inv .copied)
+returns c = doubled-end _ _ _ _ _ _ (omega arith) (c .before .loop .inv .copied)
 
 pub copy-row-spec : {M : Type 1} → statement M
 copy-row-spec =

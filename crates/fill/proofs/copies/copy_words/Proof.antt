@@ -1,53 +1,52 @@
--- The loop's invariant: the words so far are those of the copies. Assumes nothing.
+-- The loop's invariant: so many copies are there. Assumes nothing.
+use Prim.Native.Nat.{_-_}
+use Rattle.fill.proofs.AgainLaws.{Repeated, repeated-start, words-room, repeated-step, repeated-end}
 use borrow.Author.Needs.{needs}
 use native.Mathlib.Omega.{arith}
-use mathlib.Core.Path.{_≡_, refl}
-use Prim.Native.Nat.{_-_, _*_}
-use Rattle.fill.proofs.AgainLaws.{Repeating, repeating-start, repeating-step, repeating-end}
 use Rattle.fill.proofs.copies.copy_words.Statement.{statement}
 use Rattle.fill.proofs.copies.copy_words.Tie as tie
 
 abbrev Inv-loop : tie.InvT-loop
-Inv-loop table₀ n k total j₀ table j = (total ≡ k * n) × Repeating n k table₀ table j
+Inv-loop table₀ n k done₀ table done = Repeated n k table₀ table done
 
 abbrev μ-loop : tie.MeasureT-loop
-μ-loop table₀ n k total j₀ table j = total - j
-
-mul-total : tie.Need-mul-total Inv-loop μ-loop
-mul-total c = search needs
+μ-loop table₀ n k done₀ table done = k - done
 
 loop-holds : tie.Need-loop-holds Inv-loop μ-loop
-loop-holds c = (refl, repeating-start (c .args .n) (c .args .k) (c .args .table .now) (c .pre .0) (c .pre .1))
+loop-holds c = repeated-start _ _ _ (c .before .pre .0)
 
-sub-from : tie.Need-sub-from Inv-loop μ-loop
-sub-from c = search needs
+sub-least : tie.Need-sub-least Inv-loop μ-loop
+sub-least c = search needs
 
-mul-table : tie.Need-mul-table Inv-loop μ-loop
-mul-table c = search needs
+least-requires : tie.Need-least-requires Inv-loop μ-loop
+least-requires c κs = search needs
 
-slice-read-table : tie.Need-slice-read-table Inv-loop μ-loop
-slice-read-table c = search needs
+mul-copy-plain : tie.Need-mul-copy-plain Inv-loop μ-loop
+mul-copy-plain c = omega (arith, words-room (c .before .before .before .before .before .args .n) (c .before .before .before .before .before .args .k) (c .before .before .before .loop .done) (c .before .least .result) _ (c .before .before .before .before .before .pre .1) (omega arith) (omega arith))
 
-mul-table-2 : tie.Need-mul-table-2 Inv-loop μ-loop
-mul-table-2 c = search needs
+mul-copy-plain-2 : tie.Need-mul-copy-plain-2 Inv-loop μ-loop
+mul-copy-plain-2 c = omega (arith, words-room (c .before .before .before .before .before .args .n) (c .before .before .before .before .before .args .k) (c .before .before .before .loop .done) (c .before .least .result) _ (c .before .before .before .before .before .pre .1) (omega arith) (omega arith))
 
-slice-write-table : tie.Need-slice-write-table Inv-loop μ-loop
-slice-write-table c = search needs
+copy-plain-requires : tie.Need-copy-plain-requires Inv-loop μ-loop
+copy-plain-requires c κs =
+    let l = c .before .before .before .loop .inv .long in
+    let r = words-room (c .before .before .before .before .before .args .n) (c .before .before .before .before .before .args .k) (c .before .before .before .loop .done) (c .before .least .result) _ (c .before .before .before .before .before .pre .1) (omega arith) (omega arith) in
+    (r .0, omega arith)
 
-add-j : tie.Need-add-j Inv-loop μ-loop
-add-j c = search needs
+add-done : tie.Need-add-done Inv-loop μ-loop
+add-done c = search needs
 
 loop-less : tie.Need-loop-less Inv-loop μ-loop
 loop-less c = search needs
 
 loop-again : tie.Need-loop-again Inv-loop μ-loop
-loop-again c = (c .before .before .loop .inv .0, repeating-step (c .before .before .before .args .n) (c .before .before .before .args .k) (c .before .before .before .args .table .now) (c .before .before .loop .table) (c .before .before .loop .j) _ (c .before .before .before .pre .1) (omega arith) (c .before .before .loop .inv .1) refl)
+loop-again c = repeated-step _ _ _ _ _ _ _ (c .before .before .before .before .before .before .before .before .pre .1) (omega arith) (omega arith) (c .before .before .before .before .before .before .loop .inv) (c .before .before .copy-plain .ensures)
 
 same-length : tie.Need-same-length Inv-loop μ-loop
 same-length c = search needs
 
 returns : tie.Need-returns Inv-loop μ-loop
-returns c = repeating-end (c .before .before .args .n) (c .before .before .args .k) (c .before .before .args .table .now) (c .before .loop .table) (c .before .loop .j) (c .before .before .pre .0) (c .before .before .pre .1) (omega arith) (c .before .loop .inv .1)
+returns c = repeated-end _ _ _ _ _ (omega arith) (c .before .loop .inv)
 
 pub copy-words-spec : {M : Type 1} → statement M
 copy-words-spec =
@@ -55,14 +54,13 @@ copy-words-spec =
     (tie.spec
     Inv-loop
     μ-loop
-    mul-total
     loop-holds
-    sub-from
-    mul-table
-    slice-read-table
-    mul-table-2
-    slice-write-table
-    add-j
+    sub-least
+    least-requires
+    mul-copy-plain
+    mul-copy-plain-2
+    copy-plain-requires
+    add-done
     loop-less
     loop-again
     same-length

@@ -32,7 +32,7 @@ enum-known-w c = search needs
 
 copy-rows-requires : tie.Need-copy-rows-requires
 unfolding Closable closedRows closedPlaced
-copy-rows-requires c κs = let p = rw (c .before .before .w .given .1) at (c .before .before .before .before .before .pre) in (p .0, p .1)
+copy-rows-requires c κs = let p = rw (c .before .before .w .given .1) at (c .before .before .before .before .before .pre) in (p .0, p .1, p .3)
 
 mul-t16 : tie.Need-mul-t16
 unfolding Closable closedRows closedPlaced

@@ -14,14 +14,26 @@ struc-requires c κs = search needs
 enum-told-2 : tie.Need-enum-told-2
 enum-told-2 c = search needs
 
-closed-ustruc-requires : tie.Need-closed-ustruc-requires
-closed-ustruc-requires c κs = search needs
+ustruc-fault-requires : tie.Need-ustruc-fault-requires
+ustruc-fault-requires c κs = search needs
+
+struc-requires-2 : tie.Need-struc-requires-2
+struc-requires-2 c κs = search needs
+
+closed-by-requires : tie.Need-closed-by-requires
+closed-by-requires c κs = search needs
 
 enum-told-3 : tie.Need-enum-told-3
 enum-told-3 c = search needs
 
-closed-edt-requires : tie.Need-closed-edt-requires
-closed-edt-requires c κs = search needs
+edt-fault-requires : tie.Need-edt-fault-requires
+edt-fault-requires c κs = search needs
+
+edt-requires : tie.Need-edt-requires
+edt-requires c κs = search needs
+
+closed-by-requires-2 : tie.Need-closed-by-requires-2
+closed-by-requires-2 c κs = search needs
 
 enum-known-w : tie.Need-enum-known-w
 enum-known-w c = search needs
@@ -35,11 +47,11 @@ returns c = rw (c .struc .ensures, c .before .enum-told .given .1) refl
 
 returns-2 : tie.Need-returns-2
 unfolding closedOf
-returns-2 c = rw (c .closed-ustruc .ensures, c .before .enum-told2 .given .1) refl
+returns-2 c = rw (c .closed-by .ensures, c .before .struc2 .ensures, c .before .before .ustruc-fault .ensures, c .before .before .before .enum-told2 .given .1) refl
 
 returns-3 : tie.Need-returns-3
 unfolding closedOf
-returns-3 c = rw (c .closed-edt .ensures, c .before .enum-told3 .given .1) refl
+returns-3 c = rw (c .closed-by2 .ensures, c .before .edt .ensures, c .before .before .edt-fault .ensures, c .before .before .before .enum-told3 .given .1) refl
 
 returns-4 : tie.Need-returns-4
 unfolding closedOf
@@ -52,9 +64,13 @@ closed-spec =
     enum-told
     struc-requires
     enum-told-2
-    closed-ustruc-requires
+    ustruc-fault-requires
+    struc-requires-2
+    closed-by-requires
     enum-told-3
-    closed-edt-requires
+    edt-fault-requires
+    edt-requires
+    closed-by-requires-2
     enum-known-w
     power-requires
     returns

@@ -1,10 +1,11 @@
 -- `ints_from` meets its contract: up to e the bytes from i on say so many integers. Assumes nothing.
 use borrow.Author.Needs.{needs}
 use native.Mathlib.Omega.{arith}
-use Prim.Native.Nat.{_-_}
+use mathlib.Core.Path.{refl, ap}
+use Prim.Native.Nat.{_+_, _-_}
 use lib.ListN.{length}
 use Rattle.scan.specs.Stretch.{Counted}
-use Rattle.scan.proofs.Stretches.{counted-none, counted-small, counted-long}
+use Rattle.scan.proofs.Stretches.{counted-none, counted-join, counted-smalls, counted-long}
 use Rattle.scan.proofs.stretch.ints_from.Statement.{statement}
 use Rattle.scan.proofs.stretch.ints_from.Tie as tie
 
@@ -15,49 +16,93 @@ abbrev μ-loop : tie.MeasureT-loop
 μ-loop s i e₀ many₀ e many = length s - e
 
 loop-holds : tie.Need-loop-holds Inv-loop μ-loop
-loop-holds c = counted-none (c .before .args .s .now) (c .before .args .i) (c .before .pre)
+loop-holds c = counted-none (c .before .args .s .now) _ (c .before .pre)
 
 shared-slice-read-b : tie.Need-shared-slice-read-b Inv-loop μ-loop
 shared-slice-read-b c = search needs
 
-add-behind : tie.Need-add-behind Inv-loop μ-loop
-add-behind c = search needs
+sub-left : tie.Need-sub-left Inv-loop μ-loop
+sub-left c = search needs
 
 returns : tie.Need-returns Inv-loop μ-loop
 returns c = c .before .before .before .loop .inv
 
+add-smalls-end : tie.Need-add-smalls-end Inv-loop μ-loop
+add-smalls-end c = search needs
+
+smalls-end-requires : tie.Need-smalls-end-requires Inv-loop μ-loop
+smalls-end-requires c κs = search needs
+
+sub-many : tie.Need-sub-many Inv-loop μ-loop
+sub-many c = search needs
+
 add-many : tie.Need-add-many Inv-loop μ-loop
-add-many c = search needs
+add-many c = let l = c .before .before .before .before .before .loop .inv .few in let u = c .smalls-end .ensures in omega (arith, l, u .0, u .1)
 
 loop-less : tie.Need-loop-less Inv-loop μ-loop
-loop-less c = search needs
+loop-less c = let u = c .smalls-end .ensures in omega (arith, u .0, u .1)
 
 loop-again : tie.Need-loop-again Inv-loop μ-loop
-loop-again c = counted-small _ _ _ _ (c .before .before .before .before .loop .inv) (c .before .before .before .loop-test .taken) (c .before .if1 .left) (c .if2 .taken)
-
-sub-long-past : tie.Need-sub-long-past Inv-loop μ-loop
-sub-long-past c = search needs
-
-long-past-requires : tie.Need-long-past-requires Inv-loop μ-loop
-long-past-requires c κs = search needs
+loop-again c =
+    counted-join (c .before .before .before .before .before .before .before .args .s .now) _ _ _ _ _ (c .before .before .before .before .before .loop .inv) (counted-smalls (c .before .before .before .before .before .before .before .args .s .now) _ _ (c .before .before .if1 .left) (c .before .if2 .taken) (c .smalls-end .ensures))
 
 returns-2 : tie.Need-returns-2 Inv-loop μ-loop
-returns-2 c = c .before .before .before .before .before .before .loop .inv
-
-add-e : tie.Need-add-e Inv-loop μ-loop
-add-e c = let l = c .before .long-past .ensures (omega arith) in omega arith
-
-add-many-2 : tie.Need-add-many-2 Inv-loop μ-loop
-add-many-2 c = search needs
-
-loop-less-2 : tie.Need-loop-less-2 Inv-loop μ-loop
-loop-less-2 c = search needs
-
-loop-again-2 : tie.Need-loop-again-2 Inv-loop μ-loop
-loop-again-2 c = counted-long _ _ _ _ _ (c .before .before .before .before .before .before .loop .inv) (c .before .before .before .before .before .loop-test .taken) (c .before .long-past .ensures) (c .if3 .left)
+returns-2 c = c .before .before .before .before .before .loop .inv
 
 returns-3 : tie.Need-returns-3 Inv-loop μ-loop
-returns-3 c = c .before .loop .inv
+returns-3 c = c .before .before .before .before .before .before .loop .inv
+
+following-of-requires : tie.Need-following-of-requires Inv-loop μ-loop
+following-of-requires c κs = search needs
+
+add-size : tie.Need-add-size Inv-loop μ-loop
+add-size c = let u = c .following-of .ensures in omega arith
+
+add-same-ints : tie.Need-add-same-ints Inv-loop μ-loop
+add-same-ints c = let u = c .before .following-of .ensures in omega arith
+
+same-ints-requires : tie.Need-same-ints-requires Inv-loop μ-loop
+same-ints-requires c κs =
+    let u = c .before .following-of .ensures in
+    (omega arith, c .before .before .before .if3 .left, c .before .before .if4 .left, ap (λ k. 1 + k) (u .0))
+
+add-many-2 : tie.Need-add-many-2 Inv-loop μ-loop
+add-many-2 c = let m = c .before .same-ints .ensures in omega (arith, m .few, m .to)
+
+add-many-3 : tie.Need-add-many-3 Inv-loop μ-loop
+add-many-3 c = let l = c .before .before .before .before .before .before .before .before .before .before .loop .inv in let m = c .before .same-ints .ensures in omega (arith, l .few, m .few, m .to)
+
+loop-less-2 : tie.Need-loop-less-2 Inv-loop μ-loop
+loop-less-2 c = let m = c .before .same-ints .ensures in omega (arith, m .from, m .to)
+
+loop-again-2 : tie.Need-loop-again-2 Inv-loop μ-loop
+loop-again-2 c =
+    let u = c .before .before .before .following-of .ensures in
+    counted-join (c .before .before .before .before .before .before .before .before .before .before .before .before .args .s .now) _ _ _ _ _ (c .before .before .before .before .before .before .before .before .before .before .loop .inv)
+    (counted-join (c .before .before .before .before .before .before .before .before .before .before .before .before .args .s .now) _ _ _ _ _
+    (counted-long (c .before .before .before .before .before .before .before .before .before .before .before .before .args .s .now) _ _ _ refl (c .before .before .before .before .before .if3 .left) (c .before .before .before .before .if4 .left) (ap (λ k. 1 + k) (u .0)) (omega (arith, u .2, c .before .before .if5 .taken)))
+    (c .before .same-ints .ensures))
+
+returns-4 : tie.Need-returns-4 Inv-loop μ-loop
+returns-4 c = c .before .before .before .before .before .before .before .before .before .loop .inv
+
+add-e : tie.Need-add-e Inv-loop μ-loop
+add-e c = omega (arith, c .if6 .left)
+
+add-many-4 : tie.Need-add-many-4 Inv-loop μ-loop
+add-many-4 c = let l = c .before .before .before .before .before .before .before .before .before .loop .inv .few in omega arith
+
+loop-less-3 : tie.Need-loop-less-3 Inv-loop μ-loop
+loop-less-3 c = let u = c .before .before .following-of .ensures in omega (arith, u .1, c .if6 .left, c .before .before .before .before .before .before .before .before .loop-test .taken)
+
+loop-again-3 : tie.Need-loop-again-3 Inv-loop μ-loop
+loop-again-3 c =
+    let u = c .before .before .following-of .ensures in
+    counted-join (c .before .before .before .before .before .before .before .before .before .before .before .args .s .now) _ _ _ _ _ (c .before .before .before .before .before .before .before .before .before .loop .inv)
+    (counted-long (c .before .before .before .before .before .before .before .before .before .before .before .args .s .now) _ _ _ refl (c .before .before .before .before .if3 .left) (c .before .before .before .if4 .left) (ap (λ k. 1 + k) (u .0)) (c .if6 .left))
+
+returns-5 : tie.Need-returns-5 Inv-loop μ-loop
+returns-5 c = c .before .loop .inv
 
 pub ints-from-spec : {M : Type 1} → statement M
 ints-from-spec =
@@ -67,16 +112,27 @@ ints-from-spec =
     μ-loop
     loop-holds
     shared-slice-read-b
-    add-behind
+    sub-left
     returns
+    add-smalls-end
+    smalls-end-requires
+    sub-many
     add-many
     loop-less
     loop-again
-    sub-long-past
-    long-past-requires
     returns-2
-    add-e
+    returns-3
+    following-of-requires
+    add-size
+    add-same-ints
+    same-ints-requires
     add-many-2
+    add-many-3
     loop-less-2
     loop-again-2
-    returns-3)
+    returns-4
+    add-e
+    add-many-4
+    loop-less-3
+    loop-again-3
+    returns-5)

@@ -1,22 +1,22 @@
 -- `integer::following_of` meets its contract. Assumes nothing.
-use Rattle.format.proofs.Choices.{ifEq-yes, ifEq-no}
-use Rattle.format.specs.Objects.{following}
-use mathlib.Core.Path.{sym}
 use native.Mathlib.Omega.{arith}
+use Rattle.format.specs.Objects.{following}
+use Rattle.format.proofs.Choices.{byEq}
+use Prim.Native.Nat.{_+_, _%_}
+use mathlib.Core.Path.{_≡_}
 use borrow.Author.Needs.{needs}
 use Rattle.wire.proofs.integer.following_of.Statement.{statement}
 use Rattle.wire.proofs.integer.following_of.Tie as tie
 
+add-result : tie.Need-add-result
+add-result c = search needs
+
+add-result-2 : tie.Need-add-result-2
+add-result-2 c = search needs
+
 returns : tie.Need-returns
 unfolding following
-returns c = (sym (ifEq-yes _ _ _ _ (c .if1 .taken)), omega arith, omega arith)
-
-cast-result : tie.Need-cast-result
-cast-result c = search needs
-
-returns-2 : tie.Need-returns-2
-unfolding following
-returns-2 c = (sym (ifEq-no _ _ _ _ (c .if1 .left)), search needs, search needs)
+returns c = (byEq (λ n. (c .args .b + 7) % 8 + 1 ≡ n) (c .args .b % 8) 0 (λ e. omega arith) (λ e. omega arith), omega arith, omega arith)
 
 pub following-of-spec : {M : Type 1} → statement M
-following-of-spec = tie.close (tie.spec returns cast-result returns-2)
+following-of-spec = tie.close (tie.spec add-result add-result-2 returns)

@@ -1,32 +1,33 @@
 -- `integer::integer_of` meets its contract. Assumes nothing.
+use mathlib.Core.Path.{sym, ap, _∙_}
 use native.Mathlib.Omega.{arith}
-use Rattle.wire.proofs.Integers.{integer-pos, integer-neg, neg-fits}
+use Rattle.format.specs.Numbers.{signed, twos}
+use Rattle.wire.proofs.Integers.{integer-take}
+use Rattle.wire.proofs.WordLaws.{number-high}
 use borrow.Author.Needs.{needs}
 use Rattle.wire.proofs.integer.integer_of.Statement.{statement}
 use Rattle.wire.proofs.integer.integer_of.Tie as tie
 
-number-requires : tie.Need-number-requires
-number-requires c κs = search needs
+word-at-requires : tie.Need-word-at-requires
+word-at-requires c κs = search needs
 
-half-requires : tie.Need-half-requires
-half-requires c κs = search needs
+signed-high-requires : tie.Need-signed-high-requires
+signed-high-requires c κs = search needs
 
 returns : tie.Need-returns
-returns c = integer-pos (c .before .before .before .before .args .s .now) (c .before .before .before .before .args .k) (c .before .before .number .result) (c .before .half .result) (omega arith) (omega arith) (c .before .before .number .ensures .0) (c .before .before .number .ensures .1) (c .before .half .ensures .0) (c .if1 .taken)
+returns c =
+    let s = c .before .before .before .before .args .s .now in
+    let k = c .before .before .before .before .args .k in
+    let n = number-high s k (c .before .word-at .result) (λ i. omega (arith, c .before .before .before .shared-slice-known .given i)) (omega arith) (omega arith) (omega arith) (c .before .word-at .ensures) in
+    c .signed-high .ensures ∙ ap (λ v. twos 8 (signed k v)) (n .0) ∙ sym (ap (twos 8) (integer-take s k (omega arith)))
 
-sub-result : tie.Need-sub-result
-sub-result c = search needs
-
-mul-result : tie.Need-mul-result
-mul-result c = omega (arith, c .before .half .ensures .1)
-
-add-result : tie.Need-add-result
-add-result c = record { fits = neg-fits (c .before .before .before .before .args .k) (c .before .before .number .result) (c .before .half .result) (omega arith) (c .before .before .number .ensures .1) (c .before .half .ensures .0) (omega arith) }
+integer-by-bytes-requires : tie.Need-integer-by-bytes-requires
+integer-by-bytes-requires c κs = search needs
 
 returns-2 : tie.Need-returns-2
-returns-2 c = integer-neg (c .before .before .before .before .args .s .now) (c .before .before .before .before .args .k) (c .before .before .number .result) (c .before .half .result) (omega arith) (omega arith) (c .before .before .number .ensures .0) (c .before .before .number .ensures .1) (c .before .half .ensures .0) (omega arith)
+returns-2 c = search needs
 
 pub integer-of-spec : {M : Type 1} → statement M
 integer-of-spec =
     tie.close
-    (tie.spec number-requires half-requires returns sub-result mul-result add-result returns-2)
+    (tie.spec word-at-requires signed-high-requires returns integer-by-bytes-requires returns-2)

@@ -1,9 +1,10 @@
 -- `integer::leading_of` meets its contract. Assumes nothing.
-use mathlib.Core.Path.{refl, sym, _∙_, subst}
 use native.Mathlib.Omega.{arith}
+use mathlib.Core.Path.{_≡_, refl, sym, subst}
+use Prim.Native.Nat.{_+_, _-_}
 use lib.ListN.{getD}
-use Rattle.format.specs.declared.Class.the-variants as C
 use Rattle.format.proofs.Digits.{bytes-of}
+use Rattle.wire.proofs.RowsAt.{small-class-at, long-class-at}
 use Rattle.wire.specs.Heads.{LeadingIs}
 use Rattle.wire.proofs.Leadings.{skip-all, leading-small, leading-long, leading-other}
 use borrow.Author.Needs.{needs}
@@ -19,39 +20,45 @@ returns c = skip-all (c .before .before .before .args .s .now) (c .before .unpad
 shared-slice-read-b : tie.Need-shared-slice-read-b
 shared-slice-read-b c = search needs
 
-class-of-requires : tie.Need-class-of-requires
-class-of-requires c κs = search needs
+returns-2 : tie.Need-returns-2
+returns-2 c =
+    let s = c .before .before .before .before .before .args .s .now in
+    let i = c .before .before .before .unpadded .result in
+    leading-other s i (getD s i 0) (omega arith) refl (record { small = omega (arith, c .before .before .before .before .shared-slice-known .given i); apart = λ g l. absurd (omega arith); above = λ g l. absurd (omega arith) }) (c .before .before .before .unpadded .ensures)
 
-enum-told : tie.Need-enum-told
-enum-told c = search needs
+cast-t9 : tie.Need-cast-t9
+cast-t9 c = search needs
 
-cast-t11 : tie.Need-cast-t11
-cast-t11 c = search needs
+add-t10 : tie.Need-add-t10
+add-t10 c = search needs
 
-add-t12 : tie.Need-add-t12
-add-t12 c = search needs
+returns-3 : tie.Need-returns-3
+returns-3 c =
+    let s = c .before .before .before .before .before .before .args .s .now in
+    let i = c .before .before .before .before .unpadded .result in
+    leading-small s i (getD s i 0) (omega arith) refl (sym (small-class-at (getD s i 0) (omega arith) (omega arith))) (c .before .before .before .before .unpadded .ensures)
 
-enum-told-2 : tie.Need-enum-told-2
-enum-told-2 c = search needs
+returns-4 : tie.Need-returns-4
+returns-4 c =
+    let s = c .before .before .before .before .before .before .before .args .s .now in
+    let i = c .before .before .before .before .before .unpadded .result in
+    leading-other s i (getD s i 0) (omega arith) refl (record { small = omega (arith, c .before .before .before .before .before .before .shared-slice-known .given i); apart = λ g l. absurd (omega arith); above = λ g l. absurd (omega arith) }) (c .before .before .before .before .before .unpadded .ensures)
 
 linteger-at-requires : tie.Need-linteger-at-requires
 linteger-at-requires c κs = search needs
 
-returns-2 : tie.Need-returns-2
-returns-2 c = leading-small (c .before .before .before .before .before .before .before .args .s .now) (c .before .before .before .before .before .unpadded .result) (getD (c .before .before .before .before .before .before .before .args .s .now) (c .before .before .before .before .before .unpadded .result) 0) (omega arith) refl (sym (c .enum-told .given .1) ∙ c .before .before .class-of .ensures) (c .before .before .before .before .before .unpadded .ensures)
-
-returns-3 : tie.Need-returns-3
-returns-3 c =
-    let s = c .before .before .before .before .before .before .before .before .args .s .now in
+returns-5 : tie.Need-returns-5
+returns-5 c =
+    let s = c .before .before .before .before .before .before .before .before .before .args .s .now in
+    let i = c .before .before .before .before .before .before .before .unpadded .result in
     subst (LeadingIs s) (sym (c .linteger-at .ensures))
-    (leading-long s (c .before .before .before .before .before .before .unpadded .result) (getD s (c .before .before .before .before .before .before .unpadded .result) 0) (bytes-of s (λ i. omega (arith, c .before .before .before .before .before .before .before .shared-slice-known .given i))) (omega arith) refl
-    (sym (c .before .enum-told2 .given .1) ∙ c .before .before .before .class-of .ensures) (c .before .before .before .before .before .before .unpadded .ensures))
+    (leading-long s i (getD s i 0) (bytes-of s (λ j. omega (arith, c .before .before .before .before .before .before .before .before .shared-slice-known .given j))) (omega arith) refl (sym (long-class-at (getD s i 0) (omega arith) (omega arith))) (c .before .before .before .before .before .before .before .unpadded .ensures))
 
-returns-4 : tie.Need-returns-4
-returns-4 c =
-    let s = c .before .before .before .before .before .before .args .s .now in
-    leading-other s (c .before .before .before .before .unpadded .result) (getD s (c .before .before .before .before .unpadded .result) 0) (c .before .class-of .result) (omega arith) refl
-    (omega (arith, c .before .before .before .before .before .shared-slice-known .given (c .before .before .before .before .unpadded .result))) (c .before .class-of .ensures) (c .before .before .before .before .unpadded .ensures) (c .match .keys3)
+returns-6 : tie.Need-returns-6
+returns-6 c =
+    let s = c .before .before .before .before .before .before .before .before .args .s .now in
+    let i = c .before .before .before .before .before .before .unpadded .result in
+    leading-other s i (getD s i 0) (omega arith) refl (record { small = omega (arith, c .before .before .before .before .before .before .before .shared-slice-known .given i); apart = λ g l. absurd (omega arith); above = λ g l. absurd (omega arith) }) (c .before .before .before .before .before .before .unpadded .ensures)
 
 pub leading-of-spec : {M : Type 1} → statement M
 leading-of-spec =
@@ -60,12 +67,11 @@ leading-of-spec =
     unpadded-requires
     returns
     shared-slice-read-b
-    class-of-requires
-    enum-told
-    cast-t11
-    add-t12
-    enum-told-2
-    linteger-at-requires
     returns-2
+    cast-t9
+    add-t10
     returns-3
-    returns-4)
+    returns-4
+    linteger-at-requires
+    returns-5
+    returns-6)

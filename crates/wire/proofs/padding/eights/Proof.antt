@@ -1,12 +1,14 @@
 -- The loop's invariant: up to e every byte from i on is padding. Assumes nothing.
-use borrow.Author.Needs.{needs}
 use native.Mathlib.Omega.{arith}
 use native.Mathlib.Nat.{le-refl}
-use mathlib.Core.Path.{_≡_}
+use mathlib.Core.Path.{_∙_, sym}
 use Prim.Native.Nat.{_+_, _-_, _≤_}
 use lib.ListN.{length}
 use Rattle.wire.specs.Ranges.{Between}
 use Rattle.wire.proofs.Ranges.{between-none, between-join}
+use Rattle.wire.proofs.WordLaws.{all-ones}
+-- x Assumes nothing.
+use borrow.Author.Needs.{needs}
 use Rattle.wire.proofs.padding.eights.Statement.{statement}
 use Rattle.wire.proofs.padding.eights.Tie as tie
 
@@ -22,20 +24,11 @@ loop-holds c = (le-refl _, c .before .pre, between-none _ _ _ (c .before .args .
 sub-loop : tie.Need-sub-loop Inv-loop μ-loop
 sub-loop c = search needs
 
-four-requires : tie.Need-four-requires Inv-loop μ-loop
-four-requires c κs = search needs
-
-add-four : tie.Need-add-four Inv-loop μ-loop
-add-four c = search needs
-
-four-requires-2 : tie.Need-four-requires-2 Inv-loop μ-loop
-four-requires-2 c κs = search needs
-
-add-if1 : tie.Need-add-if1 Inv-loop μ-loop
-add-if1 c = search needs
+word-at-requires : tie.Need-word-at-requires Inv-loop μ-loop
+word-at-requires c κs = search needs
 
 returns : tie.Need-returns Inv-loop μ-loop
-returns c = c .before .before .before .before .loop .inv
+returns c = c .before .before .before .loop .inv
 
 add-e : tie.Need-add-e Inv-loop μ-loop
 add-e c = search needs
@@ -45,12 +38,9 @@ loop-less c = search needs
 
 loop-again : tie.Need-loop-again Inv-loop μ-loop
 loop-again c =
-    let s = c .before .before .before .before .before .before .args .s .now in
-    let e = c .before .before .before .before .loop .e in
-    let k : e + 4 + 4 ≡ e + 8 = omega arith in
-    let a = c .before .before .four .ensures in
-    let b = c .before .four2 .ensures in
-    (omega arith, omega arith, between-join 0xff 0xff _ e (e + 8) s (c .before .before .before .before .loop .inv .2) (rw k at (between-join 0xff 0xff e (e + 4) (e + 4 + 4) s (a .1 (omega arith)) (b .1 (omega arith)))))
+    let s = c .before .before .before .before .before .args .s .now in
+    let e = c .before .before .before .loop .e in
+    (omega arith, omega arith, between-join 0xff 0xff _ e (e + 8) s (c .before .before .before .loop .inv .2) (all-ones s e (λ i. omega (arith, c .before .before .before .before .shared-slice-known .given i)) (omega arith)))
 
 returns-2 : tie.Need-returns-2 Inv-loop μ-loop
 returns-2 c = c .before .loop .inv
@@ -63,10 +53,7 @@ eights-spec =
     μ-loop
     loop-holds
     sub-loop
-    four-requires
-    add-four
-    four-requires-2
-    add-if1
+    word-at-requires
     returns
     add-e
     loop-less

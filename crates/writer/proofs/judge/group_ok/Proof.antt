@@ -1,22 +1,9 @@
 -- `writer::judge::group_ok` meets its contract. Assumes nothing.
 use mathlib.Core.Path.{sym, _∙_}
-use borrow.Author.Tests.{not-true, not-false}
 use borrow.Author.Needs.{needs}
-use Rattle.writer.proofs.RowLaws.{group-short, group-missed, group-struc, group-edt, group-other}
+use Rattle.writer.proofs.RowLaws.{group-short, group-missed, group-landed}
 use Rattle.writer.proofs.judge.group_ok.Statement.{statement}
 use Rattle.writer.proofs.judge.group_ok.Tie as tie
-
-mul-kind : tie.Need-mul-kind
-mul-kind c = search needs
-
-add-kind : tie.Need-add-kind
-add-kind c = search needs
-
-mul-kind-2 : tie.Need-mul-kind-2
-mul-kind-2 c = search needs
-
-shared-slice-read-kind : tie.Need-shared-slice-read-kind
-shared-slice-read-kind c = search needs
 
 mul-beneath : tie.Need-mul-beneath
 mul-beneath c = search needs
@@ -63,34 +50,19 @@ shared-slice-read-lands c = search needs
 lands-requires : tie.Need-lands-requires
 lands-requires c κs = search needs
 
+kind-ok-requires : tie.Need-kind-ok-requires
+kind-ok-requires c κs = search needs
+
 returns-2 : tie.Need-returns-2
-returns-2 c = sym (group-missed _ _ _ (sym (c .before .lands .ensures) ∙ not-true _ (c .if2 .taken)))
+returns-2 c = c .kind-ok .ensures ∙ sym (group-landed _ _ _ (c .before .before .before .before .if1 .left) (sym (c .before .before .lands .ensures) ∙ c .before .if2 .taken))
 
 returns-3 : tie.Need-returns-3
-returns-3 c = sym (group-struc _ _ _ (c .before .before .before .before .if1 .left) (sym (c .before .before .lands .ensures) ∙ not-false _ (c .before .if2 .left)) (c .if3 .taken))
-
-add-edt-rows : tie.Need-add-edt-rows
-add-edt-rows c = search needs
-
-edt-rows-requires : tie.Need-edt-rows-requires
-edt-rows-requires c κs = search needs
-
-returns-4 : tie.Need-returns-4
-returns-4 c =
-    c .edt-rows .ensures ∙ sym (group-edt _ _ _ (c .before .before .before .before .before .before .if1 .left) (sym (c .before .before .before .before .lands .ensures) ∙ not-false _ (c .before .before .before .if2 .left)) (c .before .if4 .taken))
-
-returns-5 : tie.Need-returns-5
-returns-5 c =
-    sym (group-other _ _ _ (c .before .before .before .before .before .if1 .left) (sym (c .before .before .before .lands .ensures) ∙ not-false _ (c .before .before .if2 .left)) (c .before .if3 .left) (c .if4 .left))
+returns-3 c = sym (group-missed _ _ _ (sym (c .before .lands .ensures) ∙ c .if2 .left))
 
 pub group-ok-spec : {M : Type 1} → statement M
 group-ok-spec =
     tie.close
     (tie.spec
-    mul-kind
-    add-kind
-    mul-kind-2
-    shared-slice-read-kind
     mul-beneath
     add-beneath
     mul-beneath-2
@@ -106,9 +78,6 @@ group-ok-spec =
     mul-lands-2
     shared-slice-read-lands
     lands-requires
+    kind-ok-requires
     returns-2
-    returns-3
-    add-edt-rows
-    edt-rows-requires
-    returns-4
-    returns-5)
+    returns-3)

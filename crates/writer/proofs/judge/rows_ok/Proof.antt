@@ -1,14 +1,14 @@
 -- `writer::judge::rows_ok` meets its contract: each row passed is in order, and its data words are counted. Assumes nothing.
 use mathlib.Core.Path.{_≡_, refl, sym, _∙_, ap}
 use mathlib.Core.Bool.{true}
+use Prim.Native.Nat.{ℕ, _-_, _<_, _≤_}
 use native.Mathlib.Omega.{arith}
+use lib.ListN.{getD}
 use borrow.Author.Needs.{needs}
 use borrow.Author.Tests.{not-true, not-false}
-use Prim.Native.Nat.{ℕ, _-_, _<_, _≤_}
-use lib.ListN.{getD}
 use Rattle.writer.specs.Rows.{lands, rowOk, dataTo}
 use Rattle.writer.proofs.LeafRows.{clash}
-use Rattle.writer.proofs.RowLaws.{all-on, row-on}
+use Rattle.writer.proofs.RowLaws.{row-on}
 use Rattle.writer.proofs.Whole.{formed-no, formed-end}
 use Rattle.writer.proofs.judge.rows_ok.Statement.{statement}
 use Rattle.writer.proofs.judge.rows_ok.Tie as tie
@@ -35,24 +35,8 @@ loop-holds : tie.Need-loop-holds Inv-loop μ-loop
 unfolding dataTo
 loop-holds c = (omega arith, sym (c .before .lands .ensures) ∙ not-false _ (c .if1 .left), (λ i h. absurd (omega arith)), refl, omega arith)
 
-plain-until-requires : tie.Need-plain-until-requires Inv-loop μ-loop
-plain-until-requires c κs = omega arith
-
-loop-less : tie.Need-loop-less Inv-loop μ-loop
-loop-less c = let s = c .before .plain-until .ensures in omega arith
-
-loop-again : tie.Need-loop-again Inv-loop μ-loop
-loop-again c =
-    let s = c .before .plain-until .ensures in
-    let i = c .before .before .before .loop .inv in
-    (s .within, i .1, all-on _ _ _ _ (i .2) s, i .3 ∙ sym (s .none), i .4)
-
 judge-row-requires : tie.Need-judge-row-requires Inv-loop μ-loop
-judge-row-requires c κs =
-    let s = c .before .plain-until .ensures in
-    let i = c .before .before .before .loop .inv in
-    let w = s .within in
-    ((c .before .before .before .before .before .before .before .before .pre, omega (arith, c .if2 .left)), (i .3 ∙ sym (s .none), i .4))
+judge-row-requires c κs = ((c .before .before .before .before .before .before .pre, c .loop-test .taken), (c .before .loop .inv .3, c .before .loop .inv .4))
 
 enum-told : tie.Need-enum-told Inv-loop μ-loop
 enum-told c = search needs
@@ -60,11 +44,9 @@ enum-told c = search needs
 returns-2 : tie.Need-returns-2 Inv-loop μ-loop
 returns-2 c =
     let j = rw (c .enum-told .given .1) at (c .before .before .judge-row .ensures) in
-    let h = c .before .before .before .before .before .before .before .before .before .before .before .pre in
-    let s = c .before .before .before .before .plain-until .ensures in
-    let w = s .within in
-    let q : c .before .before .before .before .plain-until .result < getD (c .before .before .before .before .before .before .before .before .before .before .before .args .table .now) 0 0 = omega (arith, c .before .before .before .if2 .left, h .rows) in
-    formed-no _ (λ f. clash _ (f .each (c .before .before .before .before .plain-until .result) (omega arith) q) (rw (h .rows) at j))
+    let h = c .before .before .before .before .before .before .before .before .before .pre in
+    let q : c .before .before .before .before .loop .p < getD (c .before .before .before .before .before .before .before .before .before .args .table .now) 0 0 = omega (arith, h .rows, c .before .before .before .loop-test .taken) in
+    formed-no _ (λ f. clash _ (f .each (c .before .before .before .before .loop .p) (omega arith) q) (rw (h .rows) at j))
 
 enum-known-one : tie.Need-enum-known-one Inv-loop μ-loop
 enum-known-one c = search needs
@@ -72,25 +54,20 @@ enum-known-one c = search needs
 add-past : tie.Need-add-past Inv-loop μ-loop
 add-past c =
     let j = rw (c .before .one .given .1) at (c .before .before .before .judge-row .ensures) in
-    let h = c .before .before .before .before .before .before .before .before .before .before .before .before .pre in
+    let h = c .before .before .before .before .before .before .before .before .before .before .pre in
     omega arith
 
 add-p : tie.Need-add-p Inv-loop μ-loop
-add-p c =
-    let h = c .before .before .before .before .before .before .before .before .before .before .before .before .pre in
-    let w = c .before .before .before .before .before .plain-until .ensures .within in
-    omega arith
+add-p c = omega arith
 
-loop-less-2 : tie.Need-loop-less-2 Inv-loop μ-loop
-loop-less-2 c = let s = c .before .before .before .before .before .plain-until .ensures in let w = s .start in omega (arith, c .before .before .before .before .if2 .left, s .within)
+loop-less : tie.Need-loop-less Inv-loop μ-loop
+loop-less c = omega arith
 
-loop-again-2 : tie.Need-loop-again-2 Inv-loop μ-loop
-loop-again-2 c =
+loop-again : tie.Need-loop-again Inv-loop μ-loop
+loop-again c =
     let j = rw (c .before .one .given .1) at (c .before .before .before .judge-row .ensures) in
-    let s = c .before .before .before .before .before .plain-until .ensures in
-    let w = s .within in
-    let i = c .before .before .before .before .before .before .before .loop .inv in
-    (omega (arith, c .before .before .before .before .if2 .left), i .1, row-on _ _ _ (all-on _ _ _ _ (i .2) s) (j .0), j .2, j .1)
+    let i = c .before .before .before .before .before .loop .inv in
+    (omega arith, i .1, row-on _ _ _ (i .2) (j .0), j .2, j .1)
 
 returns-3 : tie.Need-returns-3 Inv-loop μ-loop
 returns-3 c =
@@ -108,15 +85,12 @@ rows-ok-spec =
     lands-requires
     returns
     loop-holds
-    plain-until-requires
-    loop-less
-    loop-again
     judge-row-requires
     enum-told
     returns-2
     enum-known-one
     add-past
     add-p
-    loop-less-2
-    loop-again-2
+    loop-less
+    loop-again
     returns-3)

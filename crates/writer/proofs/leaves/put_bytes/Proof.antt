@@ -1,25 +1,19 @@
--- `writer::leaves::put_bytes` meets its contract: the bytes up to `i` stand; each is a part of one data word. Assumes nothing.
-use mathlib.Core.Path.{_≡_, refl, sym, ap, ap₂, _∙_}
+-- `writer::leaves::put_bytes` meets its contract: the words before `i` stand, and the rest of the bytes belongs behind them. Assumes nothing.
+use Prim.Native.Nat.{_+_, _-_, _*_, _/_, _≤_}
+use mathlib.Core.Path.{_≡_, _∙_}
 use native.Mathlib.Omega.{arith}
-use native.Mathlib.Numerals.{add-one}
-use Prim.Native.Nat.{_+_, _-_, _*_, _/_, _≤_, _<_}
-use mathlib.Core.List.{_++_}
-use lib.ListN.{length, take, drop, set, getD, length-set}
-use lib.Seq.{paste, paste-suc, paste-zero, take-length}
-use Rattle.format.specs.Bits.{bytesFor}
-use Rattle.format.specs.Answers.{over}
-use Rattle.writer.specs.Rows.{aAt, bAt, leafAt}
-use Rattle.writer.specs.Forms.{leafBytes}
-use Rattle.writer.proofs.LeafForms.{bits-at, bytes-length, byte-at, byte-in}
+use borrow.Author.Needs.{needs}
+use Rattle.writer.specs.Rows.{aAt}
+use Rattle.writer.proofs.Over.{part-length, back-length}
+use Rattle.writer.proofs.WordLaws.{Laying, laying-starts, laying-on, laying-last, laying-ends, bits-room, word-in}
 use Rattle.writer.proofs.leaves.put_bytes.Statement.{statement}
 use Rattle.writer.proofs.leaves.put_bytes.Tie as tie
 
 abbrev Inv-loop : tie.InvT-loop
-Inv-loop table p out₀ first bytes i₀ out i =
-    (i ≤ bytes) × (length out ≡ length out₀) × (first ≡ 3 * getD table 0 0 + 4 + bAt table p) × (bytes ≡ (aAt table p + 7) / 8) × (out ≡ paste out₀ 0 (leafBytes (leafAt table p)) i)
+Inv-loop table p out₀ first bytes words i₀ out i = (i ≤ words) × Laying table p out₀ out i
 
 abbrev μ-loop : tie.MeasureT-loop
-μ-loop table p out₀ first bytes i₀ out i = bytes - i
+μ-loop table p out₀ first bytes words i₀ out i = words - i
 
 shared-slice-read-first : tie.Need-shared-slice-read-first Inv-loop μ-loop
 shared-slice-read-first c = omega arith
@@ -43,7 +37,7 @@ shared-slice-read-first-2 : tie.Need-shared-slice-read-first-2 Inv-loop μ-loop
 shared-slice-read-first-2 c = omega arith
 
 add-first-3 : tie.Need-add-first-3 Inv-loop μ-loop
-add-first-3 c = let r = bits-at _ _ (c .before .before .pre .0) (c .before .before .pre .1) in omega arith
+add-first-3 c = let b = bits-room _ _ _ (c .before .before .before .before .pre) in omega arith
 
 mul-bytes : tie.Need-mul-bytes Inv-loop μ-loop
 mul-bytes c = omega arith
@@ -58,91 +52,104 @@ shared-slice-read-bytes : tie.Need-shared-slice-read-bytes Inv-loop μ-loop
 shared-slice-read-bytes c = omega arith
 
 add-bytes-2 : tie.Need-add-bytes-2 Inv-loop μ-loop
-add-bytes-2 c = let r = bits-at _ _ (c .before .before .before .pre .0) (c .before .before .before .pre .1) in omega arith
+add-bytes-2 c = let b = bits-room _ _ _ (c .before .before .before .before .before .pre) in omega arith
 
 loop-holds : tie.Need-loop-holds Inv-loop μ-loop
-loop-holds c = let a = c .before .before .before .args in (omega arith, refl, refl, refl, paste-zero (a .out .now) 0 (leafBytes (leafAt (a .table .now) (a .p))))
+loop-holds c = (omega arith, laying-starts _ _ _)
 
-add-word : tie.Need-add-word Inv-loop μ-loop
-unfolding bytesFor
-add-word c =
-    let s = c .before .loop in
-    let h = byte-in _ _ (bits-at _ _ (c .before .before .before .before .before .pre .0) (c .before .before .before .before .before .pre .1)) (s .i) (omega arith) in
-    omega arith
+mul-at : tie.Need-mul-at Inv-loop μ-loop
+mul-at c = let b = bits-room _ _ _ (c .before .before .before .before .before .before .before .pre) in let z = c .before .loop .inv .1 .same in omega arith
 
-mul-word : tie.Need-mul-word Inv-loop μ-loop
-unfolding bytesFor
-mul-word c =
-    let s = c .before .loop in
-    let h = byte-in _ _ (bits-at _ _ (c .before .before .before .before .before .pre .0) (c .before .before .before .before .before .pre .1)) (s .i) (omega arith) in
-    omega arith
+sub-put-word : tie.Need-sub-put-word Inv-loop μ-loop
+sub-put-word c = let b = bits-room _ _ _ (c .before .before .before .before .before .before .before .pre) in let z = c .before .loop .inv .1 .same in omega arith
 
-shared-slice-read-word : tie.Need-shared-slice-read-word Inv-loop μ-loop
-unfolding bytesFor
-shared-slice-read-word c =
-    let s = c .before .before .loop in
-    let h = byte-in _ _ (bits-at _ _ (c .before .before .before .before .before .before .pre .0) (c .before .before .before .before .before .before .pre .1)) (s .i) (omega arith) in
-    omega arith
+part-put-word-start : tie.Need-part-put-word-start Inv-loop μ-loop
+part-put-word-start c = let b = bits-room _ _ _ (c .before .before .before .before .before .before .before .pre) in let z = c .before .loop .inv .1 .same in omega arith
 
-mul-out : tie.Need-mul-out Inv-loop μ-loop
-mul-out c = omega arith
+part-put-word-end : tie.Need-part-put-word-end Inv-loop μ-loop
+part-put-word-end c = search needs
 
-sub-out : tie.Need-sub-out Inv-loop μ-loop
-sub-out c = omega arith
+add-put-word : tie.Need-add-put-word Inv-loop μ-loop
+add-put-word c = let b = bits-room _ _ _ (c .before .before .before .before .before .before .before .before .pre) in let h = word-in _ _ (b .0) (c .before .before .loop .i) (omega arith) in omega arith
 
-shr-out : tie.Need-shr-out Inv-loop μ-loop
-shr-out c = omega arith
+mul-put-word : tie.Need-mul-put-word Inv-loop μ-loop
+mul-put-word c = let b = bits-room _ _ _ (c .before .before .before .before .before .before .before .before .pre) in let h = word-in _ _ (b .0) (c .before .before .loop .i) (omega arith) in omega arith
 
-cast-out : tie.Need-cast-out Inv-loop μ-loop
-cast-out c = omega arith
+shared-slice-read-put-word : tie.Need-shared-slice-read-put-word Inv-loop μ-loop
+shared-slice-read-put-word c = let b = bits-room _ _ _ (c .before .before .before .before .before .before .before .before .before .pre) in let h = word-in _ _ (b .0) (c .before .before .before .loop .i) (omega arith) in omega arith
 
-slice-write-out : tie.Need-slice-write-out Inv-loop μ-loop
-unfolding bytesFor
-slice-write-out c =
-    let l = bytes-length _ _ (bits-at _ _ (c .before .before .before .before .before .before .pre .0) (c .before .before .before .before .before .before .pre .1)) in
-    omega (arith, c .before .before .before .before .before .before .pre .2)
+put-word-requires : tie.Need-put-word-requires Inv-loop μ-loop
+put-word-requires c κs = let b = bits-room _ _ _ (c .before .before .before .before .before .before .before .before .before .pre) in let z = c .before .before .before .loop .inv .1 .same in omega (arith, part-length (8 * c .before .before .before .loop .i) (c .before .before .before .loop .out))
 
 add-i : tie.Need-add-i Inv-loop μ-loop
-unfolding bytesFor
-add-i c =
-    let l = bytes-length _ _ (bits-at _ _ (c .before .before .before .before .before .before .pre .0) (c .before .before .before .before .before .before .pre .1)) in
-    omega (arith, c .before .before .before .before .before .before .pre .2)
+add-i c = let b = bits-room _ _ _ (c .before .before .before .before .before .before .before .before .before .before .before .before .pre) in omega arith
 
 loop-less : tie.Need-loop-less Inv-loop μ-loop
 loop-less c = omega arith
 
 loop-again : tie.Need-loop-again Inv-loop μ-loop
-unfolding bytesFor
 loop-again c =
-    let a = c .before .before .before .before .before .before .args in
-    let s = c .before .before .loop in
-    let r = bits-at _ _ (c .before .before .before .before .before .before .pre .0) (c .before .before .before .before .before .before .pre .1) in
-    let l = bytes-length _ _ r in
-    let m = leafBytes (leafAt (a .table .now) (a .p)) in
-    let b = byte-at _ _ r (s .i) (omega arith) in
-    let z : 0 + s .i ≡ s .i = omega arith in
-    let k : 0 + s .i < length (a .out .now) = omega (arith, c .before .before .before .before .before .before .pre .2) in
-    let q = paste-suc (a .out .now) 0 m (s .i) 0 k (omega arith) in (
-      omega arith,
-      simp length-set (s .inv .1),
-      s .inv .2,
-      s .inv .3,
-      rw (add-one (s .i)) (ap₂ (λ x y. set x (s .i) y) (s .inv .4) b ∙ ap (λ k. set (paste (a .out .now) 0 m (s .i)) k (getD m (s .i) 0)) (sym z) ∙ q),
-    )
+    let b = bits-room _ _ _ (c .before .before .before .before .before .before .before .before .before .before .before .before .pre) in
+    let s = c .before .before .before .before .before .before .loop in
+    (omega arith, laying-on _ _ _ b (s .out) (s .i) (s .inv .1) (c .before .before .put-word .last .0) (omega arith) (c .before .before .put-word .kept .0) (c .before .before .put-word .ensures))
+
+mul-at-2 : tie.Need-mul-at-2 Inv-loop μ-loop
+mul-at-2 c = let b = bits-room _ _ _ (c .before .before .before .before .before .before .before .before .pre) in let z = c .before .before .loop .inv .1 .same in omega arith
+
+sub-put-low : tie.Need-sub-put-low Inv-loop μ-loop
+sub-put-low c = let b = bits-room _ _ _ (c .before .before .before .before .before .before .before .before .pre) in let z = c .before .before .loop .inv .1 .same in omega arith
+
+part-put-low-start : tie.Need-part-put-low-start Inv-loop μ-loop
+part-put-low-start c = let b = bits-room _ _ _ (c .before .before .before .before .before .before .before .before .pre) in let z = c .before .before .loop .inv .1 .same in omega arith
+
+part-put-low-end : tie.Need-part-put-low-end Inv-loop μ-loop
+part-put-low-end c = search needs
+
+add-put-low : tie.Need-add-put-low Inv-loop μ-loop
+add-put-low c = let b = bits-room _ _ _ (c .before .before .before .before .before .before .before .before .before .pre) in let h = word-in _ _ (b .0) (c .before .before .before .loop .i) (omega arith) in omega arith
+
+mul-put-low : tie.Need-mul-put-low Inv-loop μ-loop
+mul-put-low c = let b = bits-room _ _ _ (c .before .before .before .before .before .before .before .before .before .pre) in let h = word-in _ _ (b .0) (c .before .before .before .loop .i) (omega arith) in omega arith
+
+shared-slice-read-put-low : tie.Need-shared-slice-read-put-low Inv-loop μ-loop
+shared-slice-read-put-low c = let b = bits-room _ _ _ (c .before .before .before .before .before .before .before .before .before .before .pre) in let h = word-in _ _ (b .0) (c .before .before .before .before .loop .i) (omega arith) in omega arith
+
+mul-put-low-2 : tie.Need-mul-put-low-2 Inv-loop μ-loop
+mul-put-low-2 c = omega arith
+
+sub-put-low-2 : tie.Need-sub-put-low-2 Inv-loop μ-loop
+sub-put-low-2 c = omega arith
+
+shr-put-low : tie.Need-shr-put-low Inv-loop μ-loop
+shr-put-low c = omega arith
+
+put-low-requires : tie.Need-put-low-requires Inv-loop μ-loop
+put-low-requires c κs =
+    let b = bits-room _ _ _ (c .before .before .before .before .before .before .before .before .before .before .pre) in
+    let z = c .before .before .before .before .loop .inv .1 .same in
+    (omega arith, omega (arith, part-length (8 * c .before .before .before .before .loop .i) (c .before .before .before .before .loop .out)))
 
 same-length : tie.Need-same-length Inv-loop μ-loop
-same-length c = c .before .loop .inv .1
+same-length c =
+    let b = bits-room _ _ _ (c .before .before .before .before .before .before .before .before .before .before .before .before .before .pre) in
+    let a = c .before .before .before .before .before .before .before .before .before .before .before .before .before .args in
+    let s = c .before .before .before .before .before .before .before .loop in
+    let z = s .inv .1 .same in
+    back-length (8 * ((aAt (a .table .now) (a .p) + 7) / 8 / 8)) (s .out) (c .before .before .put-low .last .0) (omega arith) (c .before .before .put-low .kept .0) ∙ z
 
 returns : tie.Need-returns Inv-loop μ-loop
-unfolding over bytesFor
 returns c =
-    let a = c .before .before .before .before .before .args in
-    let s = c .before .loop in
-    let r = bits-at _ _ (c .before .before .before .before .before .pre .0) (c .before .before .before .before .before .pre .1) in
-    let m = leafBytes (leafAt (a .table .now) (a .p)) in
-    let e : s .i ≡ length m = omega (arith, bytes-length _ _ r) in
-    let z : 0 + length m ≡ length m = omega arith in
-    s .inv .4 ∙ ap (λ k. take k m ++ drop (0 + k) (a .out .now)) e ∙ ap₂ _++_ (take-length m) (ap (λ k. drop k (a .out .now)) z)
+    let b = bits-room _ _ _ (c .before .before .before .before .before .before .before .before .before .before .before .before .before .pre) in
+    let a = c .before .before .before .before .before .before .before .before .before .before .before .before .before .args in
+    let s = c .before .before .before .before .before .before .before .loop in
+    let e : s .i ≡ (aAt (a .table .now) (a .p) + 7) / 8 / 8 = omega arith in
+    laying-last _ _ _ b (s .out) _ (rw e at (s .inv .1)) _ (c .before .before .put-low .last .0) (omega arith) (omega arith) (omega arith) (c .before .before .put-low .ensures)
+
+same-length-2 : tie.Need-same-length-2 Inv-loop μ-loop
+same-length-2 c = c .before .before .loop .inv .1 .same
+
+returns-2 : tie.Need-returns-2 Inv-loop μ-loop
+returns-2 c = let s = c .before .before .loop in laying-ends _ _ _ (bits-room _ _ _ (c .before .before .before .before .before .before .before .before .pre)) (s .out) (s .i) (s .inv .1) (omega arith)
 
 pub put-bytes-spec : {M : Type 1} → statement M
 put-bytes-spec =
@@ -164,16 +171,29 @@ put-bytes-spec =
     shared-slice-read-bytes
     add-bytes-2
     loop-holds
-    add-word
-    mul-word
-    shared-slice-read-word
-    mul-out
-    sub-out
-    shr-out
-    cast-out
-    slice-write-out
+    mul-at
+    sub-put-word
+    part-put-word-start
+    part-put-word-end
+    add-put-word
+    mul-put-word
+    shared-slice-read-put-word
+    put-word-requires
     add-i
     loop-less
     loop-again
+    mul-at-2
+    sub-put-low
+    part-put-low-start
+    part-put-low-end
+    add-put-low
+    mul-put-low
+    shared-slice-read-put-low
+    mul-put-low-2
+    sub-put-low-2
+    shr-put-low
+    put-low-requires
     same-length
-    returns)
+    returns
+    same-length-2
+    returns-2)

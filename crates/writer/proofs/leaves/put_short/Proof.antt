@@ -20,7 +20,7 @@ put-tagged-requires : tie.Need-put-tagged-requires
 put-tagged-requires c κs =
     let r = bits-at _ _ (c .before .before .before .before .before .pre .0 .0) (c .before .before .before .before .before .pre .0 .1) in
     let l = short-length _ _ r (c .before .before .marked .result) (c .before .width .result) (c .before .before .before .before .before .pre .0 .2) (c .before .before .marked .ensures) (c .before .width .ensures .0) in
-    (omega arith, omega arith)
+    (omega arith, omega arith, omega arith)
 
 add-result : tie.Need-add-result
 add-result c = search needs

@@ -46,7 +46,7 @@ put-tagged-requires : tie.Need-put-tagged-requires
 put-tagged-requires c κs =
     let e = c .before .width .ensures .0 ∙ ap width (c .before .before .doubled .ensures ∙ handed _ (c .before .before .before .value-of .result) (omega arith) (c .before .before .before .value-of .ensures)) in
     let l = int-length-large (c .before .before .before .before .before .before .args .v) (c .before .width .result) (omega arith) (omega arith) e (c .before .width .ensures .1) in
-    (omega arith, omega arith)
+    (omega arith, omega arith, omega arith)
 
 same-length-2 : tie.Need-same-length-2
 same-length-2 c = search needs

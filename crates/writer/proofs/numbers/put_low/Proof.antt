@@ -1,65 +1,73 @@
--- `writer::numbers::put_low` meets its contract: the bytes from `i` on stand already, and the rest are those of what is left. Assumes nothing.
+-- `writer::numbers::put_low` meets its contract: the first four bytes, and then the others over the part behind them. Assumes nothing.
 use native.Mathlib.Omega.{arith}
-use Prim.Native.Nat.{_%_, _^_, _≤_}
-use mathlib.Core.Path.{_≡_, refl, sym, _∙_}
-use mathlib.Core.List.{_++_}
-use lib.ListN.{length, drop, length-set}
+use Prim.Native.Nat.{_+_, _-_, _*_, _/_, _%_, _^_}
+use mathlib.Core.Path.{_≡_, sym, ap, _∙_}
 use Rattle.format.specs.Numbers.{be}
 use Rattle.format.specs.Answers.{over}
 use Rattle.format.proofs.Digits.{be-length}
-use Rattle.writer.proofs.NumberLaws.{low-turn}
+use Rattle.writer.proofs.NumberLaws.{low-parts}
+use Rattle.writer.proofs.Over.{over-part}
+use borrow.Author.Needs.{needs}
 use Rattle.writer.proofs.numbers.put_low.Statement.{statement}
 use Rattle.writer.proofs.numbers.put_low.Tie as tie
 
-abbrev Inv-loop : tie.InvT-loop
-Inv-loop out₀ k n x₀ i₀ out x i =
-    (i ≤ k) × (length out ≡ length out₀) × (be k (n % 256 ^ k) ++ drop k out₀ ≡ be i (x % 256 ^ i) ++ drop i out)
+put-each-requires : tie.Need-put-each-requires
+put-each-requires c κs = search needs
 
-abbrev μ-loop : tie.MeasureT-loop
-μ-loop out₀ k n x₀ i₀ out x i = i
+same-length : tie.Need-same-length
+same-length c = search needs
 
-loop-holds : tie.Need-loop-holds Inv-loop μ-loop
-loop-holds c = (omega arith, refl, refl)
+returns : tie.Need-returns
+returns c = search needs
 
-sub-i : tie.Need-sub-i Inv-loop μ-loop
-sub-i c = omega arith
+mul-put-four : tie.Need-mul-put-four
+mul-put-four c = search needs
 
-cast-out : tie.Need-cast-out Inv-loop μ-loop
-cast-out c = omega arith
+shr-put-four : tie.Need-shr-put-four
+shr-put-four c = search needs
 
-slice-write-out : tie.Need-slice-write-out Inv-loop μ-loop
-slice-write-out c = omega arith
+put-four-requires : tie.Need-put-four-requires
+put-four-requires c κs = search needs
 
-loop-less : tie.Need-loop-less Inv-loop μ-loop
-loop-less c = omega arith
+sub-put-each : tie.Need-sub-put-each
+sub-put-each c = search needs
 
-loop-again : tie.Need-loop-again Inv-loop μ-loop
-loop-again c =
-    let a = c .before .before .args in
-    let s = c .before .loop in
-    (omega arith, simp length-set (s .inv .1), low-turn (a .k) (a .n) (s .i) (s .x) (a .out .now) (s .out) (c .loop-test .taken) (omega arith) (s .inv .2))
+part-put-each-start : tie.Need-part-put-each-start
+part-put-each-start c = search needs
 
-same-length : tie.Need-same-length Inv-loop μ-loop
-same-length c = c .before .loop .inv .1
+part-put-each-end : tie.Need-part-put-each-end
+part-put-each-end c = search needs
 
-returns : tie.Need-returns Inv-loop μ-loop
-unfolding be over
-returns c =
-    let a = c .before .before .args in
-    let e : c .before .loop .i ≡ 0 = omega arith in
-    sym (rw e at (c .before .loop .inv .2)) ∙ rw (be-length (a .k) (a .n % 256 ^ a .k)) refl
+put-each-requires-2 : tie.Need-put-each-requires-2
+put-each-requires-2 c κs = search needs
+
+same-length-2 : tie.Need-same-length-2
+same-length-2 c = search needs
+
+returns-2 : tie.Need-returns-2
+returns-2 c =
+    let a = c .before .before .before .before .before .before .before .before .before .before .args in
+    let t = a .out .now in
+    let r = a .k - 4 in
+    let high = be 4 (a .n / 2 ^ (8 * r) % 256 ^ 4) in
+    let low = be r (a .n % 256 ^ r) in
+    let k : 4 + r ≡ a .k = omega arith in
+    over-part high low t 4 (c .before .before .before .before .before .before .put-four .last .0) (c .before .before .put-each2 .last .0) (sym (be-length 4 _)) (omega (arith, be-length 4 (a .n / 2 ^ (8 * r) % 256 ^ 4))) (c .before .before .before .before .before .before .put-four .ensures) (c .before .before .put-each2 .ensures)
+    ∙ ap (λ l. over l t) (sym (low-parts 4 r (a .n)) ∙ ap (λ k. be k (a .n % 256 ^ k)) k)
 
 pub put-low-spec : {M : Type 1} → statement M
 put-low-spec =
     tie.close
     (tie.spec
-    Inv-loop
-    μ-loop
-    loop-holds
-    sub-i
-    cast-out
-    slice-write-out
-    loop-less
-    loop-again
+    put-each-requires
     same-length
-    returns)
+    returns
+    mul-put-four
+    shr-put-four
+    put-four-requires
+    sub-put-each
+    part-put-each-start
+    part-put-each-end
+    put-each-requires-2
+    same-length-2
+    returns-2)

@@ -10,76 +10,60 @@ use Rattle.writer.proofs.Over.{set-0, set-01}
 use Rattle.writer.proofs.numbers.put_size.Statement.{statement}
 use Rattle.writer.proofs.numbers.put_size.Tie as tie
 
--- src/numbers.rt:85:9
 slice-write-out : tie.Need-slice-write-out
 slice-write-out c = omega (arith, size-length-0 (c .before .before .args .n) (c .if1 .taken))
 
--- src/numbers.rt:86:9
 slice-write-out-2 : tie.Need-slice-write-out-2
 slice-write-out-2 c = simp length-set (omega (arith, size-length-0 (c .before .before .args .n) (c .if1 .taken)))
 
--- src/numbers.rt:87:9
 same-length : tie.Need-same-length
 same-length c = search needs
 
--- src/numbers.rt:87:9
 returns : tie.Need-returns
 returns c =
     let a = c .before .before .args in
     let h : 1 < length (a .out .now) = omega (arith, size-length-0 (a .n) (c .if1 .taken)) in
     set-01 (a .out .now) 0x81 0 h ∙ ap (λ l. over l (a .out .now)) (sym (size-0 (a .n) (c .if1 .taken)))
 
--- src/numbers.rt:90:18
 cast-out : tie.Need-cast-out
 cast-out c = search needs
 
--- src/numbers.rt:90:9
 slice-write-out-3 : tie.Need-slice-write-out-3
 slice-write-out-3 c = omega (arith, size-length-1 (c .before .before .before .args .n) (c .before .if1 .left) (omega arith))
 
--- src/numbers.rt:91:9
 same-length-2 : tie.Need-same-length-2
 same-length-2 c = search needs
 
--- src/numbers.rt:91:9
 returns-2 : tie.Need-returns-2
 returns-2 c =
     let a = c .before .before .before .args in
     let h : 0 < length (a .out .now) = omega (arith, size-length-1 (a .n) (c .before .if1 .left) (omega arith)) in
     set-0 (a .out .now) (a .n) h ∙ ap (λ l. over l (a .out .now)) (sym (size-1 (a .n) (c .before .if1 .left) (c .if2 .taken)))
 
--- src/numbers.rt:94:9
 slice-write-out-4 : tie.Need-slice-write-out-4
 slice-write-out-4 c = omega (arith, size-length-1 (c .before .before .before .before .args .n) (c .before .before .if1 .left) (omega arith))
 
--- src/numbers.rt:95:9
 same-length-3 : tie.Need-same-length-3
 same-length-3 c = search needs
 
--- src/numbers.rt:95:9
 returns-3 : tie.Need-returns-3
 returns-3 c =
     let a = c .before .before .before .before .args in
     let h : 0 < length (a .out .now) = omega (arith, size-length-1 (a .n) (c .before .before .if1 .left) (omega arith)) in
     set-0 (a .out .now) 0 h ∙ ap (λ l. over l (a .out .now)) (sym (size-128 (a .n) (c .if3 .taken)))
 
--- src/numbers.rt:97:9
 width-requires : tie.Need-width-requires
 width-requires c κs = search needs
 
--- src/numbers.rt:98:21
 add-put-tagged : tie.Need-add-put-tagged
 add-put-tagged c = search needs
 
--- src/numbers.rt:98:5
 put-tagged-requires : tie.Need-put-tagged-requires
-put-tagged-requires c κs = let l = size-length-long (c .before .before .before .before .before .before .args .n) (omega arith) in (omega arith, omega arith)
+put-tagged-requires c κs = let l = size-length-long (c .before .before .before .before .before .before .args .n) (omega arith) in (omega arith, omega arith, omega arith)
 
--- src/numbers.rt:80:1
 same-length-4 : tie.Need-same-length-4
 same-length-4 c = search needs
 
--- src/numbers.rt:80:1
 returns-4 : tie.Need-returns-4
 returns-4 c =
     let a = c .before .before .before .before .before .before .before .before .before .args in

@@ -8,39 +8,31 @@ use Rattle.writer.proofs.Over.{byte-part, byte-then, byte-length}
 use Rattle.writer.proofs.numbers.put_tagged.Statement.{statement}
 use Rattle.writer.proofs.numbers.put_tagged.Tie as tie
 
--- src/numbers.rt:76:14
 cast-out : tie.Need-cast-out
 cast-out c = search needs
 
--- src/numbers.rt:76:5
 slice-write-out : tie.Need-slice-write-out
 slice-write-out c = search needs
 
--- src/numbers.rt:77:13
 sub-put-low : tie.Need-sub-put-low
 sub-put-low c = simp length-set (omega arith)
 
--- src/numbers.rt:77:13
 part-put-low-start : tie.Need-part-put-low-start
 part-put-low-start c = simp length-set (omega arith)
 
--- src/numbers.rt:77:13
 part-put-low-end : tie.Need-part-put-low-end
 part-put-low-end c = search needs
 
--- src/numbers.rt:77:5
 put-low-requires : tie.Need-put-low-requires
 put-low-requires c κs =
     let h : 0 < length (c .before .before .args .out .now) = omega arith in
     omega (arith, byte-part (c .before .before .args .out .now) (c .before .before .args .tag) h)
 
--- src/numbers.rt:72:1
 same-length : tie.Need-same-length
 same-length c =
     let h : 0 < length (c .before .before .before .before .before .args .out .now) = omega arith in
     byte-length (c .before .before .before .before .before .args .out .now) (c .before .before .before .before .before .args .tag) h (c .before .before .put-low .last .0) (c .before .before .put-low .kept .0)
 
--- src/numbers.rt:72:1
 returns : tie.Need-returns
 returns c =
     let a = c .before .before .before .before .before .args in

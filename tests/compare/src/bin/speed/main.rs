@@ -4,11 +4,6 @@
 //! Buffers are lent as the call before left them. The floor is a plain loop
 //! that stores as many words as the table has.
 
-#![cfg_attr(
-    not(any(has_read, has_write, has_normal_length, has_normalise)),
-    allow(unused)
-)]
-
 mod loads;
 mod measure;
 
@@ -18,81 +13,56 @@ use measure::{measure, store_words, Buffers, Call, Times};
 use std::hint::black_box;
 use std::process::ExitCode;
 
-/// An operation as both programs do it; the archive may not have it yet.
+/// An operation as both programs do it.
 struct Operation {
     name: &'static str,
-    library: Option<Call>,
+    library: Call,
     second: Call,
 }
 
-fn reading() -> Operation {
-    #[cfg(has_read)]
-    let library: Option<Call> = Some(|lent| {
-        let answer = library::read(&lent.message, &mut lent.table, library::Empty::AsItIs);
-        black_box(answer);
-    });
-    #[cfg(not(has_read))]
-    let library = None;
+/// Slices are never empty here.
+const EMPTY: library::Empty = library::Empty::AsItIs;
+
+const OPERATIONS: [Operation; 4] = [
     Operation {
         name: "read",
-        library,
+        library: |lent| {
+            black_box(library::read(&lent.message, &mut lent.table, EMPTY));
+        },
         second: |lent| {
             black_box(second::read(black_box(&lent.message), &mut lent.table));
         },
-    }
-}
-
-fn writing() -> Operation {
-    #[cfg(has_write)]
-    let library: Option<Call> = Some(|lent| {
-        let answer = library::write(&lent.given, &mut lent.output, library::Empty::AsItIs);
-        black_box(answer);
-    });
-    #[cfg(not(has_write))]
-    let library = None;
+    },
     Operation {
         name: "write",
-        library,
+        library: |lent| {
+            black_box(library::write(&lent.given, &mut lent.output, EMPTY));
+        },
         second: |lent| {
             black_box(second::write(black_box(&lent.given), &mut lent.output));
         },
-    }
-}
-
-fn normal_length() -> Operation {
-    #[cfg(has_normal_length)]
-    let library: Option<Call> = Some(|lent| {
-        black_box(library::normal_length(&lent.given, library::Empty::AsItIs));
-    });
-    #[cfg(not(has_normal_length))]
-    let library = None;
+    },
     Operation {
         name: "normal_length",
-        library,
+        library: |lent| {
+            black_box(library::normal_length(&lent.given, EMPTY));
+        },
         second: |lent| {
             black_box(second::normal_length(black_box(&lent.given)));
         },
-    }
-}
-
-fn normalising() -> Operation {
-    #[cfg(has_normalise)]
-    let library: Option<Call> = Some(|lent| {
-        let (table, output) = (&mut lent.table, &mut lent.output);
-        let answer = library::normalise(&lent.message, table, output, library::Empty::AsItIs);
-        black_box(answer);
-    });
-    #[cfg(not(has_normalise))]
-    let library = None;
+    },
     Operation {
         name: "normalise",
-        library,
+        library: |lent| {
+            let (table, output) = (&mut lent.table, &mut lent.output);
+            black_box(library::normalise(&lent.message, table, output, EMPTY));
+        },
         second: |lent| {
             let (table, output) = (&mut lent.table, &mut lent.output);
             black_box(second::normalise(black_box(&lent.message), table, output));
         },
-    }
-}
+    },
+];
 
 fn head(operation: &Operation) {
     println!(
@@ -137,16 +107,17 @@ fn line(load: &Load, lent: &Buffers, times: &Times) {
     );
 }
 
-/// Makes only the calls of one program, for a tool that counts instructions: the operation's name, the load's number, the program
-/// and the number of calls. Prints the load's name, and its bytes and rows.
-fn only(words: &[String], operations: &[Operation]) -> Option<()> {
+/// Makes only the calls of one program, for a tool that counts instructions: the
+/// operation's name, the load's number, the program and the number of calls.
+/// Prints the load's name, and its bytes and rows.
+fn only(words: &[String]) -> Option<()> {
     let [name, load, program, calls] = words else {
         return None;
     };
-    let operation = operations.iter().find(|known| known.name == name)?;
+    let operation = OPERATIONS.iter().find(|known| known.name == name)?;
     let load = loads().into_iter().nth(load.parse().ok()?)?;
     let call = match program.as_str() {
-        "library" => operation.library?,
+        "library" => operation.library,
         "second" => operation.second,
         _ => return None,
     };
@@ -159,23 +130,18 @@ fn only(words: &[String], operations: &[Operation]) -> Option<()> {
 }
 
 fn main() -> ExitCode {
-    let operations = [reading(), writing(), normal_length(), normalising()];
     let words: Vec<String> = std::env::args().skip(1).collect();
     if !words.is_empty() {
-        return match only(&words, &operations) {
+        return match only(&words) {
             Some(()) => ExitCode::SUCCESS,
             None => ExitCode::FAILURE,
         };
     }
-    for operation in operations {
+    for operation in OPERATIONS {
         head(&operation);
-        let Some(call) = operation.library else {
-            println!("not in the archive yet");
-            continue;
-        };
         for load in loads() {
             let mut lent = Buffers::new(&load.message);
-            let times = measure(&mut lent, call, operation.second, store_words);
+            let times = measure(&mut lent, operation.library, operation.second, store_words);
             line(&load, &lent, &times);
         }
     }

@@ -1,0 +1,73 @@
+//! The declarations of the C header `msdtp.h`, for callers who want the C
+//! interface itself. The functions of the crate's root are the safe ones.
+//!
+//! A slice is passed as its pointer and its length. An empty one may have any
+//! pointer, null too. Lent buffers may not overlap.
+
+/// Reading's answer: 0 or a refusal's number, its place, and the words used or
+/// needed.
+#[derive(Clone, Copy, Debug, PartialEq, Eq)]
+#[repr(C)]
+pub struct Reading {
+    /// 0, or the refusal's number.
+    pub number: u64,
+    /// The refusal's place in the message.
+    pub place: u64,
+    /// The words used, or with 11 those needed.
+    pub words: u64,
+}
+
+/// Writing's answer: 0 or a refusal's number, and the bytes written or needed.
+#[derive(Clone, Copy, Debug, PartialEq, Eq)]
+#[repr(C)]
+pub struct Writing {
+    /// 0, or the refusal's number.
+    pub number: u64,
+    /// The bytes written, or with 15 those needed.
+    pub length: u64,
+}
+
+/// Normalising's answer: reading's, and then writing's.
+#[derive(Clone, Copy, Debug, PartialEq, Eq)]
+#[repr(C)]
+pub struct Normalising {
+    /// 0, or the refusal's number.
+    pub number: u64,
+    /// The refusal's place in the message.
+    pub place: u64,
+    /// The words used, or with 11 those needed.
+    pub words: u64,
+    /// The bytes written, or with 15 those needed.
+    pub length: u64,
+}
+
+extern "C" {
+    /// Reads a message into a lent table.
+    pub fn msdtp_read(
+        message: *const u8,
+        message_len: usize,
+        table: *mut u64,
+        table_len: usize,
+    ) -> Reading;
+
+    /// Writes the normal form of a table's items into a lent output.
+    pub fn msdtp_write(
+        table: *const u64,
+        table_len: usize,
+        output: *mut u8,
+        output_len: usize,
+    ) -> Writing;
+
+    /// Tells the length of the normal form of a table's items.
+    pub fn msdtp_normal_length(table: *const u64, table_len: usize) -> Writing;
+
+    /// Reads a message into a lent table and writes its normal form.
+    pub fn msdtp_normalise(
+        message: *const u8,
+        message_len: usize,
+        table: *mut u64,
+        table_len: usize,
+        output: *mut u8,
+        output_len: usize,
+    ) -> Normalising;
+}

@@ -1,0 +1,218 @@
+-- Copies doubled: some copies and then some more are all of them, and what a round of copying does. Assumes nothing.
+use Prim.Native.Nat.{ℕ, zero, suc, _+_, _-_, _*_, _%_, _/_, _^_, _≤_, _<_}
+use native.Mathlib.Omega.{arith}
+use native.Mathlib.Numerals.{add-one}
+use native.Mathlib.Nat.{suc-mul, one-mul, add-mul, mod-add-mod, mul-le-mul-right}
+use mathlib.Core.Path.{_≡_, refl, sym, ap, ap₂, _∙_}
+use mathlib.Core.List.{List, [], _∷_, _++_, append-assoc, append-nil}
+use lib.ListN.{length, take, drop, getD, set, length-append}
+use lib.Seq.{take-at, take-suc, getD-take, length-take-le}
+use Rattle.format.specs.Answers.{over}
+use Rattle.format.proofs.Choices.{byEq, ifEq-yes, ifEq-no}
+use Rattle.fill.specs.Copies.{shift, moved, copies}
+use Rattle.fill.proofs.Over.{over-self, over-length, over-part, grown, set-word, set-row}
+use Rattle.fill.proofs.CopyLaws.{moved-length, moved-append, copies-length, moved-copies}
+
+-- ---- moved on twice
+shift-shift : (a b k x : ℕ) → shift a k (shift b k x) ≡ shift (b + a) k x
+unfolding shift
+shift-shift a b k x =
+    let e : x + b + a ≡ x + (b + a) = omega arith in
+    byEq (λ y. shift a k y ≡ shift (b + a) k x) k 2
+    (λ q. ifEq-yes k 2 (((x + b) % 2 ^ 64 + a) % 2 ^ 64) ((x + b) % 2 ^ 64) q ∙ mod-add-mod (x + b) (2 ^ 64) a ∙ ap (λ n. n % 2 ^ 64) e ∙ sym (ifEq-yes k 2 ((x + (b + a)) % 2 ^ 64) x q))
+    (λ q. ifEq-no k 2 ((x + a) % 2 ^ 64) x q ∙ sym (ifEq-no k 2 ((x + (b + a)) % 2 ^ 64) x q))
+
+pub moved-moved : (a b : ℕ) (l : List ℕ) → moved a (moved b l) ≡ moved (b + a) l
+unfolding moved
+moved-moved a b [] = refl
+moved-moved a b (k ∷ []) = refl
+moved-moved a b (k ∷ x ∷ []) = refl
+moved-moved a b (k ∷ x ∷ y ∷ l) = ap₂ (λ v r. k ∷ x ∷ v ∷ r) (shift-shift a b k y) (moved-moved a b l)
+
+-- ---- some copies, and then some more
+module _ (w r : ℕ) where
+  copies-more : (j k : ℕ) (l : List ℕ) → length l ≡ 3 * r → copies w (suc (j + k)) l ≡ copies w (suc j) l ++ moved (suc j * w) (copies w k l)
+  unfolding copies
+  copies-more zero k l e =
+      let z : 0 + k ≡ k = omega arith in
+      ap (λ n. l ++ copies w n (moved w l)) z ∙ ap (λ z. l ++ z) (sym (moved-copies w r k l e))
+      ∙ ap₂ (λ a b. a ++ moved b (copies w k l)) (sym (append-nil l)) (sym (one-mul w))
+  copies-more (suc j) k l e =
+      let z : suc j + k ≡ suc (j + k) = omega arith in
+      let n : w + suc j * w ≡ suc (suc j) * w = omega (arith, suc-mul (suc j) w) in
+      ap (λ n. l ++ copies w n (moved w l)) z
+      ∙ ap (λ z. l ++ z)
+      (copies-more j k (moved w l) (moved-length w l ∙ e)
+      ∙ ap (λ z. copies w (suc j) (moved w l) ++ z)
+      (ap (moved (suc j * w)) (sym (moved-copies w r k l e)) ∙ moved-moved (suc j * w) w (copies w k l) ∙ ap (λ m. moved m (copies w k l)) n))
+      ∙ sym (append-assoc l (copies w (suc j) (moved w l)) (moved (suc (suc j) * w) (copies w k l)))
+
+  pub copies-add : (j k : ℕ) (l : List ℕ) → 0 < j → length l ≡ 3 * r → copies w (j + k) l ≡ copies w j l ++ moved (j * w) (copies w k l)
+  copies-add zero k l p e = absurd (omega arith)
+  copies-add (suc j) k l p e =
+      let z : suc j + k ≡ suc (j + k) = omega arith in
+      ap (λ n. copies w n l) z ∙ copies-more j k l e
+
+-- ---- a round of copying: the first words stand again from `to` on
+-- what is read before `to` is what was there
+unread : (t₀ m t : List ℕ) (to i : ℕ) → i < to → to ≤ length t₀ → t ≡ over (take to t₀ ++ m) t₀ → getD t i 0 ≡ getD t₀ i 0
+unfolding over
+unread t₀ m t to i h g e =
+    let l : length (take to t₀) ≡ to = length-take-le to t₀ g in
+    let f : take to t ≡ take to t₀ =
+    ap (take to) (e ∙ append-assoc (take to t₀) m (drop (length (take to t₀ ++ m)) t₀)) ∙ take-at (take to t₀) (m ++ drop (length (take to t₀ ++ m)) t₀) to l in
+    sym (getD-take to t i 0 h) ∙ ap (λ z. getD z i 0) f ∙ getD-take to t₀ i 0 h
+
+take-row : (t : List ℕ) (i : ℕ) → i + 3 ≤ length t → take (i + 3) t ≡ take i t ++ (getD t i 0 ∷ getD t (i + 1) 0 ∷ getD t (i + 2) 0 ∷ [])
+take-row t i h =
+    let a : i + 3 ≡ suc (i + 2) = omega arith in
+    let b : i + 2 ≡ suc (i + 1) = omega arith in
+    let c : i + 1 ≡ suc i = omega arith in
+    ap (λ n. take n t) a ∙ take-suc t (i + 2) 0 (omega arith)
+    ∙ ap (λ z. z ++ (getD t (i + 2) 0 ∷ []))
+    (ap (λ n. take n t) b ∙ take-suc t (i + 1) 0 (omega arith) ∙ ap (λ z. z ++ (getD t (i + 1) 0 ∷ [])) (ap (λ n. take n t) c ∙ take-suc t i 0 (omega arith)))
+    ∙ append-assoc (take i t ++ (getD t i 0 ∷ [])) (getD t (i + 1) 0 ∷ []) (getD t (i + 2) 0 ∷ [])
+    ∙ append-assoc (take i t) (getD t i 0 ∷ []) (getD t (i + 1) 0 ∷ getD t (i + 2) 0 ∷ [])
+
+moved-more : (w : ℕ) (t : List ℕ) (i : ℕ) → i % 3 ≡ 0 → i + 3 ≤ length t
+    → moved w (take (i + 3) t) ≡ moved w (take i t) ++ (getD t i 0 ∷ getD t (i + 1) 0 ∷ shift w (getD t i 0) (getD t (i + 2) 0) ∷ [])
+moved-more w t i d h =
+    let l : length (take i t) ≡ 3 * (i / 3) = omega (arith, length-take-le i t (omega arith)) in
+    ap (moved w) (take-row t i h) ∙ moved-append w (i / 3) (take i t) (getD t i 0 ∷ getD t (i + 1) 0 ∷ getD t (i + 2) 0 ∷ []) l ∙ (unfold moved in refl)
+
+-- so many words of the round are there
+pub record Moving (w to n : ℕ) (t₀ t : List ℕ) (i : ℕ) : Type 0 where
+  pub whole : i % 3 ≡ 0
+  pub upto : i ≤ n
+  pub long : length t ≡ length t₀
+  pub table-is : t ≡ over (take to t₀ ++ moved w (take i t₀)) t₀
+
+pub moving-start : (w to n : ℕ) (t : List ℕ) → Moving w to n t t 0
+unfolding moved
+moving-start w to n t =
+    record { whole = refl; upto = omega arith; long = refl; table-is = sym (ap (λ l. over l t) (append-nil (take to t)) ∙ over-self to t) }
+
+pub moving-step : (w to n : ℕ) (t₀ t : List ℕ) (i v0 v1 v2 : ℕ) → n % 3 ≡ 0 → n ≤ to → to + n ≤ length t₀ → i < n → Moving w to n t₀ t i
+    → v0 ≡ getD t i 0 → v1 ≡ getD t (i + 1) 0 → v2 ≡ shift w (getD t i 0) (getD t (i + 2) 0)
+    → Moving w to n t₀ (set (set (set t (to + i) v0) (to + i + 1) v1) (to + i + 2) v2) (i + 3)
+moving-step w to n t₀ t i v0 v1 v2 d g h q c p0 p1 p2 =
+    let wh = c .whole in
+    let lg = c .long in
+    let m : List ℕ = moved w (take i t₀) in
+    let u0 = unread t₀ m t to i (omega arith) (omega arith) (c .table-is) in
+    let u1 = unread t₀ m t to (i + 1) (omega arith) (omega arith) (c .table-is) in
+    let u2 = unread t₀ m t to (i + 2) (omega arith) (omega arith) (c .table-is) in
+    let lm : length m ≡ i = moved-length w (take i t₀) ∙ length-take-le i t₀ (omega arith) in
+    let a : to + i ≡ length (take to t₀ ++ m) = omega (arith, length-append (take to t₀) m, length-take-le to t₀ (omega arith)) in
+    let x0 : ℕ = getD t₀ i 0 in
+    let x1 : ℕ = getD t₀ (i + 1) 0 in
+    let x2 : ℕ = getD t₀ (i + 2) 0 in
+    let tb : set (set (set t (to + i) v0) (to + i + 1) v1) (to + i + 2) v2 ≡ over (take to t₀ ++ moved w (take (i + 3) t₀)) t₀ =
+    set-row (to + i) t v0 v1 v2 (omega arith)
+    ∙ grown (take to t₀ ++ m) (v0 ∷ v1 ∷ v2 ∷ []) t₀ t (to + i) (c .table-is) a
+    ∙ ap (λ z. over z t₀)
+    (append-assoc (take to t₀) m (v0 ∷ v1 ∷ v2 ∷ [])
+    ∙ ap (λ z. take to t₀ ++ z)
+    (ap (λ z. m ++ z) (ap₂ (λ y z. y ∷ v1 ∷ z ∷ []) (p0 ∙ u0) (p2 ∙ ap₂ (shift w) u0 u2) ∙ ap (λ y. x0 ∷ y ∷ shift w x0 x2 ∷ []) (p1 ∙ u1)) ∙ sym (moved-more w t₀ i (c .whole) (omega arith)))) in
+    let l3 : length (moved w (take (i + 3) t₀)) ≡ i + 3 = moved-length w (take (i + 3) t₀) ∙ length-take-le (i + 3) t₀ (omega arith) in
+    record {
+      whole = omega arith;
+      upto = omega arith;
+      long = ap length tb ∙ over-length (take to t₀ ++ moved w (take (i + 3) t₀)) t₀ (omega (arith, length-append (take to t₀) (moved w (take (i + 3) t₀)), length-take-le to t₀ (omega arith)));
+      table-is = tb;
+    }
+
+pub moving-end : (w to n : ℕ) (t₀ t : List ℕ) (i : ℕ) → n ≤ i → Moving w to n t₀ t i → t ≡ over (take to t₀ ++ moved w (take n t₀)) t₀
+moving-end w to n t₀ t i h c =
+    let u = c .upto in
+    let e : i ≡ n = omega arith in
+    c .table-is ∙ ap (λ m. over (take to t₀ ++ moved w (take m t₀)) t₀) e
+
+-- of words alone
+pub record Taking (to n : ℕ) (t₀ t : List ℕ) (i : ℕ) : Type 0 where
+  pub upto : i ≤ n
+  pub long : length t ≡ length t₀
+  pub table-is : t ≡ over (take to t₀ ++ take i t₀) t₀
+
+pub taking-start : (to n : ℕ) (t : List ℕ) → Taking to n t t 0
+taking-start to n t =
+    record { upto = omega arith; long = refl; table-is = sym (ap (λ l. over l t) (append-nil (take to t)) ∙ over-self to t) }
+
+pub taking-step : (to n : ℕ) (t₀ t : List ℕ) (i v : ℕ) → n ≤ to → to + n ≤ length t₀ → i < n → Taking to n t₀ t i → v ≡ getD t i 0
+    → Taking to n t₀ (set t (to + i) v) (i + 1)
+taking-step to n t₀ t i v g h q c p =
+    let lg = c .long in
+    let u = unread t₀ (take i t₀) t to i (omega arith) (omega arith) (c .table-is) in
+    let a : to + i ≡ length (take to t₀ ++ take i t₀) = omega (arith, length-append (take to t₀) (take i t₀), length-take-le to t₀ (omega arith), length-take-le i t₀ (omega arith)) in
+    let e : take i t₀ ++ (getD t₀ i 0 ∷ []) ≡ take (i + 1) t₀ = sym (ap (λ m. take m t₀) (add-one i) ∙ take-suc t₀ i 0 (omega arith)) in
+    let tb : set t (to + i) v ≡ over (take to t₀ ++ take (i + 1) t₀) t₀ =
+    set-word (to + i) t v (omega arith)
+    ∙ grown (take to t₀ ++ take i t₀) (v ∷ []) t₀ t (to + i) (c .table-is) a
+    ∙ ap (λ z. over z t₀)
+    (append-assoc (take to t₀) (take i t₀) (v ∷ []) ∙ ap (λ z. take to t₀ ++ z) (ap (λ y. take i t₀ ++ (y ∷ [])) (p ∙ u) ∙ e)) in
+    record {
+      upto = omega arith;
+      long = ap length tb ∙ over-length (take to t₀ ++ take (i + 1) t₀) t₀ (omega (arith, length-append (take to t₀) (take (i + 1) t₀), length-take-le to t₀ (omega arith), length-take-le (i + 1) t₀ (omega arith)));
+      table-is = tb;
+    }
+
+pub taking-end : (to n : ℕ) (t₀ t : List ℕ) (i : ℕ) → n ≤ i → Taking to n t₀ t i → t ≡ over (take to t₀ ++ take n t₀) t₀
+taking-end to n t₀ t i h c =
+    let u = c .upto in
+    let e : i ≡ n = omega arith in
+    c .table-is ∙ ap (λ m. over (take to t₀ ++ take m t₀) t₀) e
+
+-- ---- round after round
+-- so many copies are there
+pub record Doubled (w r k : ℕ) (t₀ t : List ℕ) (j : ℕ) : Type 0 where
+  pub some : 0 < j
+  pub upto : j ≤ k
+  pub long : length t ≡ length t₀
+  pub table-is : t ≡ over (copies w j (take (3 * r) t₀)) t₀
+
+pub doubled-start : (w r k : ℕ) (t : List ℕ) → 0 < k → Doubled w r k t t 1
+unfolding copies
+doubled-start w r k t p =
+    record { some = omega arith; upto = omega arith; long = refl; table-is = sym (ap (λ l. over l t) (append-nil (take (3 * r) t)) ∙ over-self (3 * r) t) }
+
+-- what a round asks for
+pub round-room : (r k j m len : ℕ) → 3 * (k * r) ≤ len → j + m ≤ k → m ≤ j
+    → (3 * (m * r) % 3 ≡ 0) × (3 * (m * r) ≤ 3 * (j * r)) × (3 * (j * r) + 3 * (m * r) ≤ len)
+round-room r k j m len h g q =
+    let a = mul-le-mul-right r g in
+    let b = mul-le-mul-right r q in
+    let c = add-mul j m r in
+    (omega arith, omega arith, omega arith)
+
+pub moves-few : (w k j : ℕ) → k * w ≤ 16384 → j ≤ k → j * w ≤ 16384
+moves-few w k j h g = let a = mul-le-mul-right w g in omega arith
+
+pub doubled-step : (w r k : ℕ) (t₀ t t′ : List ℕ) (j m : ℕ) → 3 * (k * r) ≤ length t₀ → 0 < m → j + m ≤ k → m ≤ j → Doubled w r k t₀ t j
+    → t′ ≡ over (take (3 * (j * r)) t ++ moved (j * w) (take (3 * (m * r)) t)) t → Doubled w r k t₀ t′ (j + m)
+doubled-step w r k t₀ t t′ j m h p g q c e =
+    let rr = round-room r k j m (length t₀) h g q in
+    let kr = mul-le-mul-right r g in
+    let jm = add-mul j m r in
+    let one = mul-le-mul-right r (c .some) in
+    let l : List ℕ = take (3 * r) t₀ in
+    let ll : length l ≡ 3 * r = length-take-le (3 * r) t₀ (omega (arith, one-mul r)) in
+    let lj : length (copies w j l) ≡ 3 * (j * r) = copies-length w r j l ll in
+    let lm : length (copies w m l) ≡ 3 * (m * r) = copies-length w r m l ll in
+    let d : m + (j - m) ≡ j = omega arith in
+    let f : take (3 * (m * r)) t ≡ copies w m l =
+    ap (take (3 * (m * r))) (c .table-is) ∙ over-part (3 * (m * r)) (copies w j l) t₀ (omega arith)
+    ∙ ap (take (3 * (m * r))) (ap (λ n. copies w n l) (sym d) ∙ copies-add w r m (j - m) l p ll)
+    ∙ take-at (copies w m l) (moved (m * w) (copies w (j - m) l)) (3 * (m * r)) lm in
+    let tb : t′ ≡ over (copies w (j + m) l) t₀ =
+    e ∙ ap (λ z. over (take (3 * (j * r)) t ++ moved (j * w) z) t) f
+    ∙ grown (copies w j l) (moved (j * w) (copies w m l)) t₀ t (3 * (j * r)) (c .table-is) (sym lj)
+    ∙ ap (λ z. over z t₀) (sym (copies-add w r j m l (c .some) ll)) in
+    let ls : length (copies w (j + m) l) ≡ 3 * ((j + m) * r) = copies-length w r (j + m) l ll in
+    let some = c .some in
+    record { some = omega arith; upto = g; long = ap length tb ∙ over-length (copies w (j + m) l) t₀ (omega arith); table-is = tb }
+
+pub doubled-end : (w r k : ℕ) (t₀ t : List ℕ) (j : ℕ) → k ≤ j → Doubled w r k t₀ t j → t ≡ over (copies w k (take (3 * r) t₀)) t₀
+doubled-end w r k t₀ t j h c =
+    let u = c .upto in
+    let e : j ≡ k = omega arith in
+    c .table-is ∙ ap (λ n. over (copies w n (take (3 * r) t₀)) t₀) e

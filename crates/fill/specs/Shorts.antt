@@ -1,0 +1,37 @@
+-- A container or a string whose size is one byte, by its type-byte and its contents.
+use Prim.Native.Nat.{ℕ, _+_}
+use mathlib.Core.Path.{_≡_}
+use mathlib.Core.Logic.{_≢_}
+use mathlib.Core.Bool.{Bool, true, false}
+use mathlib.Core.List.{List}
+use Rattle.format.specs.Choice.{ifEq}
+use Rattle.format.specs.Items.{Group, struc, edt, Items, end, group}
+use Rattle.format.specs.Objects.{characters}
+use Rattle.format.specs.Messages.{Outcome, says, reads}
+use Rattle.fill.specs.declared.rows.Filled.{Filled}
+use Rattle.fill.specs.Walks.{Fits, Laid}
+
+-- what the contents say, d containers around the object
+unfoldable pub insideOf : ℕ → ℕ → List ℕ → Outcome
+unfolding ifEq characters reads
+insideOf d b c = ifEq b 0xc6 (says (characters c)) (reads (d + 1) c)
+
+unfoldable pub groupOf : ℕ → Group
+unfolding ifEq
+groupOf b = ifEq b 0xc6 struc (ifEq b 0xc2 struc (ifEq b 0xc5 struc edt))
+
+-- found to be characters, however deep; or not found so, and no string
+abbrev pub TextIs : ℕ → List ℕ → Bool → Type 0
+TextIs b c true = (d : ℕ) → insideOf d b c ≡ says (characters c)
+TextIs b c false = b ≢ 0xc6
+
+-- the contents are accepted, and the object fits
+pub record ShortFits (d b : ℕ) (c : List ℕ) (base len : ℕ) : Type 0 where
+  pub items : Items
+  pub said : insideOf d b c ≡ says items
+  pub fits : Fits (group (groupOf b) items end) base len
+
+pub record ShortFilled (d b : ℕ) (c : List ℕ) (base : ℕ) (t t′ : List ℕ) (r : Filled) : Type 0 where
+  pub items : Items
+  pub said : insideOf d b c ≡ says items
+  pub laid : Laid (group (groupOf b) items end) base t t′ (r .rows) (r .count) (r .words)

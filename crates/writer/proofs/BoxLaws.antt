@@ -1,0 +1,64 @@
+-- A container as it is written: its contents first, behind room for the fewest size bytes, then its head. Assumes nothing.
+use mathlib.Core.Path.{_≡_, refl, sym, _∙_, ap}
+use mathlib.Core.List.{List, _∷_, _++_}
+use Prim.Native.Nat.{ℕ, _+_, _-_, _≤_}
+use native.Mathlib.Omega.{arith}
+use lib.ListN.{length, take, drop}
+use Rattle.format.specs.Normal.{normalSize, withSize, normal}
+use Rattle.format.specs.Answers.{over}
+use Rattle.writer.specs.Rows.{itemsAt, Run, allChars}
+use Rattle.writer.specs.Measures.{Fits, FitsBox, headByte, moved}
+use mathlib.Core.Bool.{true}
+use Rattle.writer.proofs.Over.{part-length, lent}
+use Rattle.writer.proofs.RunLaws.{box-length}
+use Rattle.writer.proofs.StringLaws.{chars-are}
+use Rattle.writer.proofs.Moving.{box-written}
+use Rattle.writer.proofs.WriteLaws.{string-head, least-size}
+
+-- a head byte of 0xc5 is that of a string
+pub box-string : (w : List ℕ) (p e kind b : ℕ) → Run w p e → b ≡ headByte kind (itemsAt w p e) → b ≡ 0xc5 → allChars w p e ≡ true
+box-string w p e kind b r h k = chars-are w p e r ∙ string-head kind (itemsAt w p e) (sym h ∙ k)
+
+-- the bytes that so many rows' size takes at least, k bytes of contents, and the h bytes that their size takes
+pub record Boxing (w : List ℕ) (p e n g k h : ℕ) : Type 0 where
+  pub least : g ≤ h
+  pub room : 1 + h + k ≤ n
+  pub whole : 1 + h + k ≡ 1 + length (withSize (normal (itemsAt w p e)))
+
+module _ (w : List ℕ) (p e d n g : ℕ) (f : FitsBox w p e d n) (eg : g ≡ length (normalSize (e - p))) where
+  pub boxing : (k h : ℕ) → k ≡ length (normal (itemsAt w p e)) → h ≡ length (normalSize k) → Boxing w p e n g k h
+  boxing k h ek eh =
+      let r = f .room in
+      let l = least-size w p e (f .run) in
+      let b = box-length (itemsAt w p e) in
+      let z = eh ∙ ap (λ j. length (normalSize j)) ek in
+      record { least = omega arith; room = omega arith; whole = omega arith }
+
+  -- the contents have room behind a type-byte and the fewest size bytes
+  pub box-start : 1 + g ≤ n
+  box-start = let k = length (normal (itemsAt w p e)) in let b = boxing k (length (normalSize k)) refl refl in omega (arith, b .least, b .room)
+
+module _ (w : List ℕ) (p e d : ℕ) (o : List ℕ) (g : ℕ) (f : FitsBox w p e d (length o)) (eg : g ≡ length (normalSize (e - p))) where
+  pub box-inside : Fits w p e (d - 1) (length (take (length o - (1 + g)) (drop (1 + g) o)))
+  box-inside =
+      let k = length (normal (itemsAt w p e)) in
+      let b = boxing w p e d (length o) g f eg k (length (normalSize k)) refl refl in
+      let s = f .shallow in
+      record { run = f .run; shallow = omega arith; room = omega (arith, part-length (1 + g) o, b .least, b .room) }
+
+  -- the contents come back in the part lent for them, are moved on, and get their head
+  pub box-done : (kind b k h : ℕ) (ys t u : List ℕ) → k ≡ length (normal (itemsAt w p e)) → h ≡ length (normalSize k) → b ≡ headByte kind (itemsAt w p e) →
+      ys ≡ over (normal (itemsAt w p e)) (take (length o - (1 + g)) (drop (1 + g) o)) →
+      t ≡ moved (1 + g) k (h - g) (take (1 + g) o ++ (ys ++ drop (length o - (1 + g)) (drop (1 + g) o))) → u ≡ over (b ∷ normalSize k) t →
+      (1 + h + k ≡ 1 + length (withSize (normal (itemsAt w p e)))) × (u ≡ over (headByte kind (itemsAt w p e) ∷ withSize (normal (itemsAt w p e))) o)
+  unfolding withSize
+  box-done kind b k h ys t u ek eh eb ey et eu =
+      let c = normal (itemsAt w p e) in
+      let s = take (1 + g) o ++ (ys ++ drop (length o - (1 + g)) (drop (1 + g) o)) in
+      let z : h ≡ length (normalSize (length c)) = eh ∙ ap (λ n. length (normalSize n)) ek in
+      let r = boxing w p e d (length o) g f eg k h ek eh in (
+        r .whole,
+        eu ∙ ap (over (b ∷ normalSize k)) et ∙ ap (λ n. over (b ∷ normalSize n) (moved (1 + g) n (h - g) s)) ek
+            ∙ box-written o c s (normalSize (length c)) b g h z (r .least) (omega (arith, r .room)) (lent (1 + g) o c ys ey)
+            ∙ ap (λ x. over (x ∷ (normalSize (length c) ++ c)) o) eb,
+      )

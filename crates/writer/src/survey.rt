@@ -1,0 +1,198 @@
+// A table's rows judged and measured in one walk: whether a run of rows is that of items, how many they are, how long their
+// normal form is, and how many data words they take; or that they stand too deep.
+ghost use mathlib.Core.Path.{_≡_};
+ghost use Prim.Native.Nat.{_+_, _≤_, _<_};
+ghost use Rattle.writer.specs.Rows.{Room, rowsOf, wordsOf, Headed, kindAt};
+ghost use Rattle.writer.specs.Surveys.{Small, SmallRows, LeavesSurveyed, RunSurveyed, BoxSurveyed};
+use crate::judge::Judged;
+use crate::judge::bits_row;
+use crate::judge::kind_ok;
+use crate::judge::plain_ok;
+use crate::leaves::bits_length;
+use crate::numbers::int_length;
+use crate::numbers::size_length;
+
+// Rows that are not those of items; items in which more containers stand inside one another than were allowed; or the bytes
+// of the normal form, the number of items, and the data words up to the end.
+pub enum Surveyed {
+    Wrong,
+    Deep,
+    Whole(usize, u64, usize),
+}
+
+// A row that is not that of an item; or the bytes of some items without elements, the row behind them, and the data words up to it.
+enum Leaves {
+    Wrong,
+    Right(usize, usize, usize),
+}
+
+// 0 where the row `q` has this kind, nothing in the second word, and a last word below `bound`; otherwise some number.
+fn strange(table: &[u64], q: usize, kind: u64, bound: u64) -> u64
+    requires { ⌜ Room (now table) (q + 1) (q + 1) × (0 < bound) ⌝ }
+    ensures { λ r. ⌜ (r ≡ 0 → Small (now (table .entry)) kind bound q) ⌝ }
+    ensures { λ r. ⌜ (Small (now (table .entry)) kind bound q → r ≡ 0) ⌝ }
+{
+    (table[3 * q + 4] ^ kind) | table[3 * q + 5] | (table[3 * q + 6] / bound)
+}
+
+// Rows from `p` on, four at a time, none of them strange.
+fn fours_until(table: &[u64], p: usize, to: usize, kind: u64, bound: u64) -> usize
+    requires { ⌜ Room (now table) p to × (0 < bound) ⌝ }
+    ensures { λ r. ⌜ SmallRows (now (table .entry)) kind bound p to r ⌝ }
+{
+    let mut q = p;
+    while to - q >= 4 {
+        let first = strange(table, q, kind, bound) | strange(table, q + 1, kind, bound);
+        let second = strange(table, q + 2, kind, bound) | strange(table, q + 3, kind, bound);
+        if first | second != 0 {
+            return q;
+        }
+        q += 4;
+    }
+    q
+}
+
+// How far from `p` on no row is strange.
+fn small_until(table: &[u64], p: usize, to: usize, kind: u64, bound: u64) -> usize
+    requires { ⌜ Room (now table) p to × (0 < bound) ⌝ }
+    ensures { λ r. ⌜ SmallRows (now (table .entry)) kind bound p to r ⌝ }
+    ensures { λ r. ⌜ (r < to → Small (now (table .entry)) kind bound r → ⊥) ⌝ }
+{
+    let mut q = fours_until(table, p, to, kind, bound);
+    while q < to {
+        if strange(table, q, kind, bound) != 0 {
+            return q;
+        }
+        q += 1;
+    }
+    q
+}
+
+// The INTs from the row `p` on that take one byte each, or the one that takes more.
+fn survey_ints(table: &[u64], p: usize, to: usize, past: usize) -> Leaves
+    requires { ⌜ Headed (now table) × (kindAt (now table) p ≡ 1) ⌝ }
+    requires { ⌜ (p < to) × (to ≤ rowsOf (now table)) × (past ≤ wordsOf (now table)) ⌝ }
+    ensures { λ r. ⌜ LeavesSurveyed (now (table .entry)) (wordsOf (now (table .entry))) past p to r ⌝ }
+{
+    if table[3 * p + 5] != 0 {
+        return Leaves::Wrong;
+    }
+    let value = table[3 * p + 6];
+    if value < 64 {
+        let next = small_until(table, p, to, 1, 64);
+        return Leaves::Right(next - p, next, past);
+    }
+    Leaves::Right(int_length(value), p + 1, past)
+}
+
+// The one row `p`, of any kind but that of an INT or a container.
+fn survey_leaf(table: &[u64], p: usize, to: usize, past: usize) -> Leaves
+    requires { ⌜ Headed (now table) × (kindAt (now table) p < 7) × (kindAt (now table) p ≡ 1 → ⊥) ⌝ }
+    requires { ⌜ (p < to) × (to ≤ rowsOf (now table)) × (past ≤ wordsOf (now table)) ⌝ }
+    ensures { λ r. ⌜ LeavesSurveyed (now (table .entry)) (wordsOf (now (table .entry))) past p to r ⌝ }
+{
+    let kind = table[3 * p + 4];
+    if kind == 2 {
+        let rows = table[0] as usize;
+        let words = table[3] as usize;
+        let row = bits_row(table, p, rows, words, past);
+        match row {
+            Judged::Wrong => return Leaves::Wrong,
+            Judged::Right(used) => {
+                return Leaves::Right(bits_length(table[3 * p + 5] as usize), p + 1, past + used);
+            }
+        }
+    }
+    if plain_ok(kind, table[3 * p + 5], table[3 * p + 6]) {
+        return Leaves::Right(1, p + 1, past);
+    }
+    Leaves::Wrong
+}
+
+// Some of the items without elements from the row `p` on.
+fn survey_leaves(table: &[u64], p: usize, to: usize, past: usize) -> Leaves
+    requires { ⌜ Headed (now table) × (kindAt (now table) p < 7) ⌝ }
+    requires { ⌜ (p < to) × (to ≤ rowsOf (now table)) × (past ≤ wordsOf (now table)) ⌝ }
+    ensures { λ r. ⌜ LeavesSurveyed (now (table .entry)) (wordsOf (now (table .entry))) past p to r ⌝ }
+{
+    let kind = table[3 * p + 4];
+    if kind == 3 {
+        let next = small_until(table, p, to, 3, 128);
+        if next == p {
+            return Leaves::Wrong;
+        }
+        return Leaves::Right(next - p, next, past);
+    }
+    if kind == 1 {
+        return survey_ints(table, p, to, past);
+    }
+    survey_leaf(table, p, to, past)
+}
+
+// The container whose row is `p`, with its elements; `depth` containers are allowed, itself among them.
+fn survey_container(table: &[u64], p: usize, to: usize, past: usize, depth: usize) -> Surveyed
+    requires { ⌜ Headed (now table) × (7 ≤ kindAt (now table) p) ⌝ }
+    requires { ⌜ (p < to) × (to ≤ rowsOf (now table)) × (past ≤ wordsOf (now table)) ⌝ }
+    ensures { λ r. ⌜ BoxSurveyed (now (table .entry)) (wordsOf (now (table .entry))) depth past p to r ⌝ }
+{
+    if depth == 0 {
+        return Surveyed::Deep;
+    }
+    let beneath = table[3 * p + 6] as usize;
+    if to - (p + 1) < beneath {
+        return Surveyed::Wrong;
+    }
+    let next = p + 1 + beneath;
+    let inner = survey_run(table, p + 1, next, past, depth - 1);
+    match inner {
+        Surveyed::Wrong => Surveyed::Wrong,
+        Surveyed::Deep => Surveyed::Deep,
+        Surveyed::Whole(n, count, after) => {
+            if count != table[3 * p + 5] {
+                return Surveyed::Wrong;
+            }
+            if !kind_ok(table, p, next) {
+                return Surveyed::Wrong;
+            }
+            Surveyed::Whole(1 + size_length(n) + n, 1, after)
+        }
+    }
+}
+
+pub fn survey_run(table: &[u64], from: usize, to: usize, before: usize, depth: usize) -> Surveyed
+    requires { ⌜ Headed (now table) ⌝ }
+    requires { ⌜ (from ≤ to) × (to ≤ rowsOf (now table)) × (before ≤ wordsOf (now table)) ⌝ }
+    ensures { λ r. ⌜ RunSurveyed (now (table .entry)) (wordsOf (now (table .entry))) depth before from to r ⌝ }
+{
+    let mut p = from;
+    let mut past = before;
+    let mut count: u64 = 0;
+    let mut n: usize = 0;
+    while p < to {
+        if table[3 * p + 4] < 7 {
+            let some = survey_leaves(table, p, to, past);
+            match some {
+                Leaves::Wrong => return Surveyed::Wrong,
+                Leaves::Right(bytes, next, after) => {
+                    n += bytes;
+                    count += (next - p) as u64;
+                    past = after;
+                    p = next;
+                    continue;
+                }
+            }
+        }
+        let one = survey_container(table, p, to, past, depth);
+        match one {
+            Surveyed::Wrong => return Surveyed::Wrong,
+            Surveyed::Deep => return Surveyed::Deep,
+            Surveyed::Whole(bytes, items, after) => {
+                n += bytes;
+                count += items;
+                past = after;
+                p = p + 1 + (table[3 * p + 6] as usize);
+            }
+        }
+    }
+    Surveyed::Whole(n, count, past)
+}
