@@ -47,3 +47,4 @@ mod normalising;
 mod normalising_pairs;
 
 mod refusals_page;
+mod stretches;

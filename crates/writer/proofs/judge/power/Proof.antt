@@ -6,11 +6,9 @@ use borrow.Author.Needs.{needs}
 use Rattle.writer.proofs.judge.power.Statement.{statement}
 use Rattle.writer.proofs.judge.power.Tie as tie
 
--- src/lib.rt:141:5
 shl-result : tie.Need-shl-result
 shl-result c = search needs
 
--- src/lib.rt:137:1
 returns : tie.Need-returns
 returns c = shl-exact {a = 1} 1 (c .args .k) 64 (omega arith) (omega arith) ∙ omega arith
 
