@@ -4,6 +4,7 @@ use mathlib.Core.List.{List, [], _∷_}
 use lib.ListN.{take}
 use Rattle.format.specs.Items.{struc, edt, Items, end, group, times}
 use Rattle.format.specs.Answers.{over}
+use Rattle.format.specs.Refusals.{wordLimit}
 use Rattle.wire.specs.declared.head.Wrap.{Wrap}
 use Rattle.wire.specs.declared.head.Wrap.the-variants.{Struc, Ustruc, Edt, Repeat}
 use Rattle.fill.specs.declared.plain.Placed.{Placed}
@@ -55,4 +56,4 @@ unfoldable pub Closable : Wrap → Filled → ℕ → Type 0
 Closable Struc f len = 3 * (f .rows + 1) ≤ len
 Closable Ustruc f len = 3 * (f .rows + 1) ≤ len
 Closable Edt f len = 3 * (f .rows + 1) ≤ len
-Closable (Repeat k) f len = (0 < k) × (3 * (k * f .rows) ≤ len) × (k * f .count ≤ len) × (k * f .words ≤ 16384)
+Closable (Repeat k) f len = (0 < k) × (3 * (k * f .rows) ≤ len) × (k * f .count ≤ len) × (k * f .words ≤ wordLimit)

@@ -10,7 +10,7 @@ use Rattle.wire.specs.Heads.{bitsFrom}
 use Rattle.fill.specs.declared.plain.Placed.{Placed}
 use Rattle.fill.specs.declared.plain.Stored.{Stored}
 
--- what a head has claimed lies within the bytes
+-- a bit string or a text lies within the bytes s
 unfoldable pub Apt : List ℕ → Head → Type 0
 unfolding bytesFor
 Apt s (Stop n p) = Unit {0}

@@ -7,14 +7,15 @@ use Rattle.format.specs.Items.{Items}
 use Rattle.format.specs.Messages.{says, got, reads}
 use Rattle.format.specs.Tables.{rows, count, dataWords, rowWords}
 use Rattle.format.specs.Answers.{over}
+use Rattle.format.specs.Refusals.{wordLimit}
 use Rattle.format.proofs.Steps.{objectAt}
 use Rattle.fill.specs.declared.plain.Placed.{Placed}
 use Rattle.fill.specs.declared.plain.Stored.{Stored}
 use Rattle.fill.specs.declared.rows.Filled.{Filled}
 
--- the table has room for the rows of items with `base` data words before them, and few data words are counted
+-- the table has room for the rows, and the data words with the `base` before them keep to the limit
 abbrev pub Fits : Items → ℕ → ℕ → Type 0
-Fits xs base len = (3 * rows xs ≤ len) × (base + length (dataWords xs) ≤ 16384)
+Fits xs base len = (3 * rows xs ≤ len) × (base + length (dataWords xs) ≤ wordLimit)
 
 -- the run is accepted, and fits
 pub record RunFits (d : ℕ) (s : List ℕ) (base len : ℕ) : Type 0 where
@@ -28,7 +29,7 @@ pub record ObjectFits (d b : ℕ) (s : List ℕ) (base len : ℕ) : Type 0 where
   pub said : objectAt d b s ≡ got items past
   pub fits : Fits items base len
 
--- the rows of items stand there, so many, of so many items, with so many data words
+-- the rows of items stand over the front of the table: how many rows, items and data words, and the table afterwards
 pub record Laid (xs : Items) (base : ℕ) (t t′ : List ℕ) (r c w : ℕ) : Type 0 where
   pub rows-are : r ≡ rows xs
   pub count-is : c ≡ count xs
@@ -45,7 +46,7 @@ pub record ObjectFilled (d b : ℕ) (s : List ℕ) (base : ℕ) (t t′ : List �
   pub said : objectAt d b s ≡ got items (r .past)
   pub laid : Laid items base t t′ (r .rows) (r .count) (r .words)
 
--- the same of the data words
+-- the same of the data words: the run is accepted, and the table has room for them
 pub record RunRoom (d : ℕ) (s : List ℕ) (len : ℕ) : Type 0 where
   pub items : Items
   pub said : reads d s ≡ says items

@@ -1,8 +1,8 @@
 // Objects that are no containers: their rows, and their data words.
 ghost use mathlib.Core.Path.{_≡_};
-ghost use Prim.Native.Nat.{_+_, _*_, _%_, _≤_, _<_};
+ghost use Prim.Native.Nat.{_*_, _≤_};
 ghost use mathlib.Core.List.{_∷_, []};
-ghost use lib.ListN.{length, take, drop};
+ghost use lib.ListN.{length};
 ghost use Rattle.format.specs.Answers.{over};
 ghost use Rattle.fill.specs.Plain.{Apt, charRows, plainRows, plainWords, plainPlaced, plainStored};
 use super::bits::put_bits;
@@ -79,6 +79,7 @@ pub fn put_plain(h: Head, s: &[u8], base: usize, table: &mut [u64]) -> Placed
     }
 }
 
+// One item, of so many rows and data words.
 fn one_item(rows: usize, words: usize, past: usize) -> Placed
     ensures { λ r. ⌜ r ≡ record { rows = rows; count = 1; words = words; past = past } ⌝ }
 {

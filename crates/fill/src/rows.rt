@@ -38,6 +38,7 @@ fn own_words(w: Wrap) -> usize
     }
 }
 
+// The row of a container whose elements are written behind it.
 fn put_group(kind: u64, f: Filled, past: usize, table: &mut [u64]) -> Placed
     requires { ⌜ 3 * (f .rows + 1) ≤ length (now table) ⌝ }
     ensures { λ r. ⌜ (r ≡ closedGroup f past) × (now (table .exit) ≡ over (kind ∷ f .count ∷ f .rows ∷ []) (now (table .entry))) ⌝ }
@@ -51,7 +52,7 @@ fn put_group(kind: u64, f: Filled, past: usize, table: &mut [u64]) -> Placed
     }
 }
 
-// A container whose elements stand behind the place of its own row.
+// What a container makes of its elements' rows, which stand behind the place of its own: its row, or the repeat's further copies.
 fn close(w: Wrap, f: Filled, past: usize, table: &mut [u64]) -> Placed
     requires { ⌜ Closable w f (length (now table)) ⌝ }
     ensures { λ r. ⌜ (r ≡ closedPlaced w f past) × (now (table .exit) ≡ closedRows w f (now (table .entry))) ⌝ }
@@ -72,7 +73,8 @@ fn close(w: Wrap, f: Filled, past: usize, table: &mut [u64]) -> Placed
     }
 }
 
-// The rows of the object whose type-byte is b; s are the bytes behind it, up to the end of the enclosing object.
+// The rows of the object whose type-byte is b; s are the bytes behind it, up to the end of the enclosing object. Each container
+// around it has a byte before s, so that `depth` and the bytes left stay within a message's length.
 fn fill_object(depth: usize, b: u8, s: &[u8], base: usize, table: &mut [u64]) -> Placed
     requires { ⌜ (depth + length (now s) < 65536) × ObjectFits depth b (now s) base (length (now table)) ⌝ }
     ensures { λ r. ⌜ ObjectFilled depth b (now (s .entry)) base (now (table .entry)) (now (table .exit)) r ⌝ }
@@ -81,6 +83,7 @@ fn fill_object(depth: usize, b: u8, s: &[u8], base: usize, table: &mut [u64]) ->
     match h {
         Head::Open(w, a, n) => {
             let e = a + n;
+            // The rows of a pattern that stands there no time may be more than the table holds.
             if copies_of(w) == 0 {
                 return Placed {
                     rows: 0,
@@ -89,6 +92,7 @@ fn fill_object(depth: usize, b: u8, s: &[u8], base: usize, table: &mut [u64]) ->
                     past: e,
                 };
             }
+            // The elements' rows go straight into the part of the table behind the container's own row.
             let own = own_words(w);
             let f = fill_run(depth + 1, &s[a..e], base, &mut table[own..]);
             close(w, f, e, table)

@@ -29,7 +29,7 @@ use Rattle.scan.specs.declared.Scanned.the-variants.{Refused, Accepted}
 use Rattle.scan.specs.declared.closing.Object.the-variants.{Bad, Got}
 use Rattle.scan.specs.Sums.{cap, sumOf, oneOf, plusOf, powerOf, secondPower, strucKind, groupOf}
 use Rattle.scan.specs.Answer.{answer, answerObject, ustrucFault, edtFault, closedBy, closedOf}
-use Rattle.scan.specs.Shorts.{shortObject, asObject, faultOf, shortKind, shortClosed, textFault, shortText}
+use Rattle.scan.specs.Shorts.{shortObject, asObject, faultOf, shortKind, textFault}
 use Rattle.scan.proofs.SumLaws.{sum-text}
 use Rattle.scan.proofs.Told.{refused-run, accepted-run}
 use Rattle.scan.proofs.Bounds.{RunWithin, reads-within}
@@ -38,6 +38,11 @@ use Rattle.scan.proofs.Stretches.{chars-leapt}
 use Rattle.scan.proofs.ObjectCases.{closed-answer}
 
 -- ---- closing
+-- a container, from what its contents come to
+unfoldable shortClosed : ℕ → Summary → Scanned
+unfolding ifEq faultOf shortKind
+shortClosed b a = ifEq (faultOf b a) 0 (Accepted (groupOf (shortKind b (a .mix)) a)) (Refused (faultOf b a) 0)
+
 by-fault : (f u : ℕ) (x : Summary) → asObject u (ifEq f 0 (Accepted x) (Refused f 0)) ≡ closedBy f x u
 unfolding ifEq closedBy asObject
 by-fault f u x = go (eqb f 0)
@@ -75,6 +80,11 @@ chars-fault n = go (eqb n 1)
     go : (t : Bool) → _≡_ {A = ℕ} (ifEq (pick t 0 3) 1 9 9) 9
     go true = refl
     go false = refl
+
+-- a container of n CHARs
+unfoldable shortText : ℕ → ℕ → Scanned
+unfolding ifEq textFault
+shortText b n = ifEq (textFault b) 0 (Accepted (oneOf 9 (n + 1) 0)) (Refused (textFault b) 0)
 
 chars-closed : (b n : ℕ) → n ≤ 127 → shortText b n ≡ shortClosed b (chars n)
 unfolding ifEq shortText textFault shortClosed faultOf ustrucFault shortKind chars strucKind

@@ -4,7 +4,7 @@ use mathlib.Core.List.{List}
 use lib.ListN.{length}
 use Rattle.format.specs.Choice.{ifEq}
 use Rattle.format.specs.Refusals.{bad-edt}
-use Rattle.format.specs.Items.{STRING, EDT, struc, end, group}
+use Rattle.format.specs.Items.{EDT, struc, end, group}
 use Rattle.format.specs.Objects.{characters}
 use Rattle.format.specs.Messages as M
 use Rattle.wire.specs.Heads.{shortWrap}
@@ -13,7 +13,7 @@ use Rattle.scan.specs.declared.Scanned.{Scanned}
 use Rattle.scan.specs.declared.Scanned.the-variants.{Refused, Accepted}
 use Rattle.scan.specs.declared.closing.Object.{Object}
 use Rattle.scan.specs.declared.closing.Object.the-variants.{Bad, Got}
-use Rattle.scan.specs.Sums.{oneOf, strucKind, groupOf}
+use Rattle.scan.specs.Sums.{strucKind}
 use Rattle.scan.specs.Answer.{ustrucFault, edtFault}
 
 -- the object of the type-byte C2, C3, C5 or C6 whose contents are c, with d containers around it
@@ -36,16 +36,7 @@ unfoldable pub shortKind : ℕ → ℕ → ℕ
 unfolding ifEq strucKind
 shortKind b m = ifEq b 0xc2 (strucKind m) (ifEq b 0xc5 (strucKind m) EDT)
 
--- a container, from what its contents come to
-unfoldable pub shortClosed : ℕ → Summary → Scanned
-unfolding ifEq faultOf shortKind
-shortClosed b a = ifEq (faultOf b a) 0 (Accepted (groupOf (shortKind b (a .mix)) a)) (Refused (faultOf b a) 0)
-
--- a container of CHARs alone: its refusal, or 0; and the answer where they are n
+-- a container of CHARs alone: its refusal, or 0
 unfoldable pub textFault : ℕ → ℕ
 unfolding ifEq
 textFault b = ifEq b 0xc2 0 (ifEq b 0xc5 0 bad-edt)
-
-unfoldable pub shortText : ℕ → ℕ → Scanned
-unfolding ifEq textFault
-shortText b n = ifEq (textFault b) 0 (Accepted (oneOf STRING (n + 1) 0)) (Refused (textFault b) 0)

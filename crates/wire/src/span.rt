@@ -2,7 +2,7 @@
 ghost use mathlib.Core.Path.{_≡_};
 ghost use Prim.Native.Nat.{_+_, _≤_, _<_};
 ghost use lib.ListN.{length};
-ghost use Rattle.wire.specs.Ranges.{Between, Stops};
+ghost use Rattle.wire.specs.Ranges.{Between};
 
 // The least and the greatest of some bytes.
 struct Spread {
@@ -61,7 +61,7 @@ fn blocks(s: &[u8], i: usize, lo: u8, hi: u8) -> usize
 // Where the bytes from i on that are lo to hi end.
 pub fn until(s: &[u8], i: usize, lo: u8, hi: u8) -> usize
     requires { ⌜ i ≤ length (now s) ⌝ }
-    ensures { λ r. ⌜ (i ≤ r) × (r ≤ length (now (s .entry))) × Between lo hi i r (now (s .entry)) × Stops lo hi r (now (s .entry)) ⌝ }
+    ensures { λ r. ⌜ (i ≤ r) × (r ≤ length (now (s .entry))) × Between lo hi i r (now (s .entry)) ⌝ }
 {
     let mut e = blocks(s, i, lo, hi);
     while e < s.len() {

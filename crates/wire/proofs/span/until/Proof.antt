@@ -24,10 +24,10 @@ shared-slice-read-b : tie.Need-shared-slice-read-b Inv-loop μ-loop
 shared-slice-read-b c = search needs
 
 returns : tie.Need-returns Inv-loop μ-loop
-returns c = (c .before .before .before .loop .inv .0, c .before .before .before .loop .inv .1, c .before .before .before .loop .inv .2, λ _ l _. absurd (omega arith))
+returns c = c .before .before .before .loop .inv
 
 returns-2 : tie.Need-returns-2 Inv-loop μ-loop
-returns-2 c = (c .before .before .before .before .loop .inv .0, c .before .before .before .before .loop .inv .1, c .before .before .before .before .loop .inv .2, λ _ _ l. absurd (omega arith))
+returns-2 c = c .before .before .before .before .loop .inv
 
 add-e : tie.Need-add-e Inv-loop μ-loop
 add-e c = search needs
@@ -43,7 +43,7 @@ loop-again c = (
 )
 
 returns-3 : tie.Need-returns-3 Inv-loop μ-loop
-returns-3 c = (c .before .loop .inv .0, c .before .loop .inv .1, c .before .loop .inv .2, λ l _ _. absurd (omega arith))
+returns-3 c = c .before .loop .inv
 
 pub until-spec : {M : Type 1} → statement M
 until-spec =
