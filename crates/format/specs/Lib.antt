@@ -1,4 +1,4 @@
--- The meanings, in the order in which they are best read. They cite the paper's sentences; nothing here follows the code.
+-- The meanings, in the order in which they are best read. They cite the paper's sentences and do not follow the code.
 pub mod Choice
 pub mod Numbers
 pub mod Bits
@@ -11,3 +11,5 @@ pub mod Tables
 pub mod Normal
 pub mod Answers
 pub mod Examples
+-- No meaning: how the code numbers the classes.
+pub mod Codes
