@@ -1,9 +1,9 @@
 /*
  * Lists the items of a message, or prints why it is refused, then prints the
- * normal form. From the repository's root, once `rt staticlib message_c` has
+ * normal form. From the repository's root, once `rt staticlib msdtp` has
  * made the archive:
  *
- *   gcc -std=c99 -Wall -Wextra -pedantic -Iinclude examples/c/measure.c target/staticlib/libmessage_c.a -o target/measure
+ *   gcc -std=c99 -Wall -Wextra -pedantic -Iinclude examples/c/measure.c target/staticlib/libmsdtp.a -o target/measure
  *   target/measure examples/empty-chest.msg
  *
  * The exit status is 0 for a message that is read, 1 for one that is refused,
