@@ -40,7 +40,7 @@ part 'layout of the proved crates' rt fmt --check
 part 'second program: layout' in_folder second cargo fmt --check
 part 'second program: lints' in_folder second cargo clippy --quiet --all-targets --offline --locked -- -D warnings
 part 'second program: tests' in_folder second cargo test --release --offline --locked
-part 'archive for C' rt staticlib message_c
+part 'archive for C' rt staticlib msdtp
 part 'comparison: layout' in_folder tests/compare cargo fmt --check
 part 'comparison: lints' in_folder tests/compare cargo clippy --quiet --all-targets --offline --locked -- -D warnings
 part 'comparison: tests' in_folder tests/compare cargo test --release --offline --locked

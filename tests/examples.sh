@@ -27,7 +27,7 @@ check() {
 }
 
 build_c() {
-    gcc -std=c99 -O2 -Wall -Wextra -pedantic -Werror -Iinclude examples/c/measure.c "$library/libmessage_c.a" -o "$folder/measure"
+    gcc -std=c99 -O2 -Wall -Wextra -pedantic -Werror -Iinclude examples/c/measure.c "$library/libmsdtp.a" -o "$folder/measure"
 }
 
 run_c() {
@@ -51,8 +51,8 @@ compare() {
     diff "$expected" "$folder/printed"
 }
 
-if [ -z "$library" ] || [ ! -f "$library/libmessage_c.a" ]; then
-    printf 'The archive libmessage_c.a is not there. Build it with rt staticlib message_c, or set MSDTP_LIB_DIR to its folder.\n'
+if [ -z "$library" ] || [ ! -f "$library/libmsdtp.a" ]; then
+    printf 'The archive libmsdtp.a is not there. Build it with rt staticlib msdtp, or set MSDTP_LIB_DIR to its folder.\n'
     printf '0 passed, 1 failed\n'
     exit 1
 fi
