@@ -287,8 +287,7 @@ def answers(blocks):
     yield same_text(ENGINEER, engineer_page(blocks))
     yield same_text(BENCH, bench_page(blocks))
     yield from same_words(RUST, rust_words(), {number: words for number, words in due.items() if number != "0"})
-    if "msdtp_meaning" in HEADER.read_text(encoding="utf-8"):  # To go, once the header has it.
-        yield from same_words(HEADER, header_words(), due)
+    yield from same_words(HEADER, header_words(), due)
 
 
 def check(blocks):
