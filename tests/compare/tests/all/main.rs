@@ -10,6 +10,7 @@ mod hostile;
 mod items_by_chance;
 mod lent;
 mod objects;
+mod pages;
 mod repeat_objects;
 mod rooms;
 mod small_stack;
@@ -46,5 +47,6 @@ mod writing_small_tables;
 mod normalising;
 mod normalising_pairs;
 
+mod format_page;
 mod refusals_page;
 mod stretches;

@@ -5,13 +5,13 @@
 use crate::checker::Checker;
 use crate::every::every_run;
 use crate::objects;
+use crate::pages::{self, in_backticks, message};
 use crate::rooms::{AMPLE_BYTES, AMPLE_WORDS};
 use crate::small_stack::{in_both_stacks, report};
 use crate::tables::{nest, table};
 use crate::told;
 use compare::library::{self, Empty};
 use std::collections::{BTreeMap, BTreeSet};
-use std::path::Path;
 
 /// The numbers of the four operations. Others have tests of their own.
 const LAST: u64 = 15;
@@ -28,19 +28,7 @@ struct Line {
 
 /// The rows of the page's tables, each with the heads of its table.
 fn tables() -> Vec<(Vec<String>, Vec<String>)> {
-    let path = Path::new(env!("CARGO_MANIFEST_DIR")).join("../../docs/REFUSALS.md");
-    let text = std::fs::read_to_string(path).expect("the page");
-    let lines: Vec<&str> = text.lines().collect();
-    let mut heads: Vec<String> = Vec::new();
-    let mut rows = Vec::new();
-    for pair in lines.windows(2) {
-        match (cells(pair[0]), cells(pair[1])) {
-            (Some(row), Some(next)) if next[0] == "---" => heads = row,
-            (Some(row), _) if row[0] != "---" => rows.push((heads.clone(), row)),
-            _ => {}
-        }
-    }
-    rows
+    pages::tables("REFUSALS.md")
 }
 
 /// The rows of the numbers of the four operations, in the page's order.
@@ -48,12 +36,6 @@ fn page() -> Vec<Line> {
     let rows = tables().into_iter().filter(|(heads, _)| heads[0] == "No.");
     let lines = rows.map(|(heads, row)| line(&heads, &row));
     lines.filter(|line| line.number <= LAST).collect()
-}
-
-/// The cells of a line of the page, if it belongs to a table.
-fn cells(line: &str) -> Option<Vec<String>> {
-    let row = line.trim().strip_prefix('|')?.strip_suffix('|')?;
-    Some(row.split('|').map(|cell| cell.trim().into()).collect())
 }
 
 /// A row under the heads of its table.
@@ -74,17 +56,6 @@ fn line(heads: &[String], row: &[String]) -> Line {
         smallest: cell("Smallest"),
         answer: in_backticks(&cell("Answer")).expect("an answer").into(),
     }
-}
-
-fn in_backticks(cell: &str) -> Option<&str> {
-    cell.strip_prefix('`')?.strip_suffix('`')
-}
-
-/// The message in a cell, if its bytes are there in backticks.
-fn message(cell: &str) -> Option<Vec<u8>> {
-    let bytes = in_backticks(cell)?.split(' ');
-    let byte = |digits| u8::from_str_radix(digits, 16).expect("a byte");
-    Some(bytes.map(byte).collect())
 }
 
 /// What a cell in words stands for.
