@@ -24,7 +24,7 @@ if ! count; then
     printf 'the instructions of %s calls could not be counted\n0 passed, 1 failed\n' "$calls"
     exit 1
 fi
-printf '%-14s %-42s %20s %9s %26s %9s\n' '' '' 'a quarter: units' each 'whole: instructions' each
+printf '%-14s %-42s %7s %12s %9s %9s %16s %9s\n' '' 'a quarter, then the whole' units instructions each units instructions each
 head -n "$calls" "$work/totals" | paste -d '|' "$work/calls" - | awk -F '|' -v each="$for_each" -v constant="$constant" '
     function check(good, words) {
         if (good) passed++
