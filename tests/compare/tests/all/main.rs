@@ -7,6 +7,7 @@ mod checker;
 mod damage;
 mod forms_by_chance;
 mod hostile;
+mod hostile_messages;
 mod items_by_chance;
 mod lent;
 mod objects;
