@@ -3,6 +3,7 @@
 # only proved code is built. 'bash list.sh -h' tells the usage and the exit statuses.
 set -u
 unset CDPATH RT_CUT
+export LC_ALL=C
 
 usage() {
     cat <<'END'

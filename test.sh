@@ -30,7 +30,7 @@ in_folder() {
 # Proves from nothing: every crate that is listed, and every edit that is there, at least one of each.
 proofs() {
     local crates edits
-    crates=$(grep -cE '^[a-z_]+:' crates.txt)
+    crates=$(grep -cE '^[A-Za-z0-9_]+ *:' crates.txt)
     edits=$(find crates -path '*/must-fail/*.edit' | wc -l)
     rt ci | tee "$work/proofs"
     [ "${PIPESTATUS[0]}" -eq 0 ] || return 1

@@ -16,7 +16,7 @@ if [ ! -x "$program" ] || [ ! -f target/stamp/sheetlist ]; then
 fi
 mkdir -p "$copy/target" "$work/stub" "$work/none" "$work/tools"
 cp -R crates.txt crates examples list.sh "$copy"
-cp -R target/bin target/stamp target/log "$copy/target"
+cp -R target/bin target/stamp "$copy/target"
 cp "$program" "$work/program"
 : >"$work/nothing"
 
