@@ -10,24 +10,7 @@ cd "$(dirname "$0")/.." || exit 1
 archive=lib$crate.a
 library=$(cd "${MSDTP_LIB_DIR:-target/staticlib}" 2>/dev/null && pwd)
 [ -z "${MSDTP_LIB_DIR:-}" ] || export MSDTP_LIB_DIR="$library"
-folder=$(mktemp -d)
-trap 'rm -rf "$folder"' EXIT
-passed=0
-failed=0
-
-# check NAME COMMAND..: one line for the command, by its exit status; what it printed follows a failure.
-check() {
-    local name=$1
-    shift
-    if "$@" >"$folder/log" 2>&1; then
-        passed=$((passed + 1))
-        printf 'passed: %s\n' "$name"
-    else
-        failed=$((failed + 1))
-        printf 'failed: %s\n' "$name"
-        cat "$folder/log"
-    fi
-}
+. tests/tally.sh
 
 build_c() {
     gcc -std=c99 -O2 -Wall -Wextra -pedantic -Werror -Iinclude examples/c/measure.c "$library/$archive" -o "$folder/measure"
@@ -55,9 +38,7 @@ compare() {
 }
 
 if [ -z "$library" ] || [ ! -f "$library/$archive" ]; then
-    printf 'The archive %s is not there. Build it with rt staticlib %s, or set MSDTP_LIB_DIR to its folder.\n' "$archive" "$crate"
-    printf '0 passed, 1 failed\n'
-    exit 1
+    lacking "The archive $archive is not there. Build it with rt staticlib $crate, or set MSDTP_LIB_DIR to its folder."
 fi
 check 'C example: build' build_c
 check 'Rust example: build' cargo_example build
@@ -69,5 +50,4 @@ for message in examples/*.msg; do
     check "Rust example: $name" compare "bindings/rust/expected/$name.txt" run_rust "$message"
 done
 check "$messages messages, $met met" [ "$met" -eq "$messages" ]
-printf '%s passed, %s failed\n' "$passed" "$failed"
-[ "$failed" -eq 0 ] && [ "$passed" -gt 0 ]
+end

@@ -5,24 +5,7 @@
 set -u
 cd "$(dirname "$0")/.." || exit 1
 archive=${MSDTP_LIB_DIR:-target/staticlib}/libmsdtp.a
-folder=$(mktemp -d)
-trap 'rm -rf "$folder"' EXIT
-passed=0
-failed=0
-
-# check NAME COMMAND..: one line for the command, by its exit status; what it printed follows a failure.
-check() {
-    local name=$1
-    shift
-    if "$@" >"$folder/log" 2>&1; then
-        passed=$((passed + 1))
-        printf 'passed: %s\n' "$name"
-    else
-        failed=$((failed + 1))
-        printf 'failed: %s\n' "$name"
-        cat "$folder/log"
-    fi
-}
+. tests/tally.sh
 
 # compile LANGUAGE ARGUMENT..: with every warning an error.
 compile() {
@@ -57,11 +40,7 @@ run_checks() {
     check "$1: exit status of the checks" test "$status" -eq 0
 }
 
-if [ ! -f "$archive" ]; then
-    printf 'The archive libmsdtp.a is not there. Build it with rt staticlib msdtp, or set MSDTP_LIB_DIR to its folder.\n'
-    printf '0 passed, 1 failed\n'
-    exit 1
-fi
+[ -f "$archive" ] || lacking 'The archive libmsdtp.a is not there. Build it with rt staticlib msdtp, or set MSDTP_LIB_DIR to its folder.'
 version=$(sed -nE 's/^version = "(.*)"$/\1/p' bindings/rust/Cargo.toml)
 printf '#include "msdtp.h"\n#include "msdtp.h"\n' >"$folder/alone.c"
 lines_after 'AN EXAMPLE' 'It prints' >"$folder/example.c"
@@ -74,5 +53,4 @@ for language in C99 C++; do
     check "$language: the checks are built" compile "$language" tests/header/*.c -x none "$archive" -o "$folder/checks"
     run_checks "$language"
 done
-printf '%s passed, %s failed\n' "$passed" "$failed"
-[ "$failed" -eq 0 ]
+end

@@ -10,31 +10,14 @@ examples=6
 vectors=386
 unread='sheetlist: the sheet could not be read to its end; nothing is listed'
 unwritten='sheetlist: the listing could not be written'
-passed=0
-failed=0
-work=$(mktemp -d)
-trap 'rm -rf "$work"' EXIT
+. tests/tally.sh
 if [ ! -x "$program" ] || [ ! -x "$second" ]; then
-    echo 'listings.sh: build target/bin/sheetlist (rt check sheetlist) and second/ (cargo build --release) first'
-    echo '0 passed, 1 failed'
-    exit 1
+    lacking 'listings.sh: build target/bin/sheetlist (rt check sheetlist) and second/ (cargo build --release) first'
 fi
 
-# check NAME COMMAND..: counts the command by its exit status.
-check() {
-    local name=$1
-    shift
-    if "$@"; then
-        passed=$((passed + 1))
-    else
-        failed=$((failed + 1))
-        printf 'failed: %s\n' "$name"
-    fi
-}
-
-# The program lists the message of $work/message, and says nothing on standard error.
+# The program lists the message of $folder/message, and says nothing on standard error.
 ours() {
-    "$program" <"$work/message" >"$work/ours" 2>"$work/said" && [ ! -s "$work/said" ] && grep -qE '^(accepted|refused) ' "$work/ours"
+    "$program" <"$folder/message" >"$folder/ours" 2>"$folder/said" && [ ! -s "$folder/said" ] && grep -qE '^(accepted|refused) ' "$folder/ours"
 }
 
 # The second program's listing of a message in hexadecimal.
@@ -42,13 +25,13 @@ theirs() {
     local line
     line=$(printf 'list %s\n' "${1:--}" | "$second") || return
     line=${line#text }
-    printf '%s' "${line//\\n/$'\n'}" >"$work/theirs"
+    printf '%s' "${line//\\n/$'\n'}" >"$folder/theirs"
 }
 
 # Both list one message, given in hexadecimal, alike.
 alike() {
-    printf '%s' "$1" | xxd -r -p >"$work/message"
-    ours && theirs "$1" && cmp "$work/ours" "$work/theirs"
+    printf '%s' "$1" | xxd -r -p >"$folder/message"
+    ours && theirs "$1" && cmp "$folder/ours" "$folder/theirs"
 }
 
 # A byte as often as said, in hexadecimal.
@@ -60,18 +43,18 @@ many() {
 complains() {
     local words=$1
     shift
-    "$@" 2>"$work/said"
-    [ "$(cat "$work/said")" = "$words" ] && [ ! -s "$work/ours" ]
+    "$@" 2>"$folder/said"
+    [ "$(cat "$folder/said")" = "$words" ] && [ ! -s "$folder/ours" ]
 }
 
-of_folder() { "$program" <examples >"$work/ours"; }
-of_nothing() { "$program" <&- >"$work/ours"; }
-to_full() { : >"$work/ours" && "$program" <examples/kinds.msg >/dev/full; }
-to_nothing() { : >"$work/ours" && "$program" <examples/kinds.msg >&-; }
+of_folder() { "$program" <examples >"$folder/ours"; }
+of_nothing() { "$program" <&- >"$folder/ours"; }
+to_full() { : >"$folder/ours" && "$program" <examples/kinds.msg >/dev/full; }
+to_nothing() { : >"$folder/ours" && "$program" <examples/kinds.msg >&-; }
 
 # The first bytes of a message from a terminal that is then hung up: the next read fails, and none after it answers otherwise.
 of_terminal() {
-    python3 - "$program" "$1" >"$work/ours" <<'END'
+    python3 - "$program" "$1" >"$folder/ours" <<'END'
 import os, subprocess, sys, tty
 master, slave = os.openpty()
 tty.setraw(slave)
@@ -107,5 +90,4 @@ check 'a read that fails after 17 of 48 bytes' complains "$unread" of_terminal 1
 check 'a read that fails after all 48 bytes' complains "$unread" of_terminal 48
 check 'a full output' complains "$unwritten" to_full
 check 'a closed output' complains "$unwritten" to_nothing
-printf '%s passed, %s failed\n' "$passed" "$failed"
-[ "$failed" -eq 0 ] && [ "$passed" -gt 0 ]
+end
