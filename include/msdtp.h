@@ -1,48 +1,14 @@
 /*
  * Messages of the MSDTP (RFC 713): reading, writing and normalising.
  *
- * Every operation works in buffers that the caller lends and returns a small
- * structure of numbers. Nothing is allocated, no state is kept between calls,
- * and calls from several threads do not disturb one another as long as no
- * buffer that is written to is lent to two of them at once.
+ *   msdtp_read           the bytes of a message to a table of its items
+ *   msdtp_write          a table of items to the bytes of its normal form
+ *   msdtp_normal_length  how many bytes that normal form has
+ *   msdtp_normalise      the bytes of a message to the bytes of its normal form
  *
- * A buffer is lent as a pointer to its first element and its number of
- * elements. An empty one may be null. The buffers lent to one call may not
- * overlap. Tables must be aligned as uint64_t is.
- *
- * The field `number` says how an operation ended:
- *
- *    0  accepted
- *    1  input over 65,536 bytes
- *    2  an outermost object needs bytes past the input's end
- *    3  an inner object needs bytes past its enclosing object's end
- *    4  reserved or unassigned type-byte
- *    5  a seventeenth container, one inside another
- *    6  a bit string whose marker or length does not fit its bytes
- *    7  REPEAT outermost, without a count, or with a negative one
- *    8  USTRUC of several kinds
- *    9  EDT without its first two elements as required
- *   10  over 16,384 rows or 16,384 data words
- *   11  lent table too short
- *   12  table to write not well formed
- *   13  more than sixteen STRUCs and EDTs one inside another
- *   14  normal form over 65,536 bytes
- *   15  lent output too short
- *
- * Reading gives 0 to 11, writing and the normal length 0 and 12 to 15.
- *
- * A table is 64-bit words: the number of rows R, the number of outermost items,
- * the offset of the data (4 + 3R), the number of data words; then R rows of
- * three words, kind, a and b; then the data words.
- *
- *   kind                      a                 b
- *   1 INT                     0                 value modulo 2^64
- *   2 BITS                    number of bits    its first data word
- *   3 CHAR, 4 BOOL, 6 XTRA    0                 code, 0 or 1, 0 to 3
- *   5 EMPTY                   0                 0
- *   7 STRUC, 8 EDT            direct elements   rows beneath
- *
- * A table of 65,540 words and an output of 65,536 bytes are always enough.
+ * Link with libmsdtp.a. Everything that a caller needs to know stands here, in
+ * this order: lent buffers, numbers, limits and sizes, the table, the
+ * operations, a complete example.
  */
 
 #ifndef MSDTP_H
@@ -55,62 +21,320 @@
 extern "C" {
 #endif
 
+#define MSDTP_VERSION_MAJOR 0
+#define MSDTP_VERSION_MINOR 2
+#define MSDTP_VERSION_PATCH 0
+#define MSDTP_VERSION "0.2.0"
+
 /*
- * What reading returns. `place` is the offset of the faulty object's type-byte
- * with numbers 2 to 9, and otherwise 0. `words` is the number of table words
- * used with number 0, the number needed with number 11, and otherwise 0.
+ * LENT BUFFERS
+ *
+ * Every operation works in buffers that the caller lends, and returns a small
+ * structure of numbers. Any bytes and any words get an answer. Nothing is
+ * allocated, no state is kept, and a stack of 64 KiB is enough. Calls from
+ * several threads do not disturb one another, as long as no buffer that one of
+ * them writes to is lent to another at the same time.
+ *
+ * A buffer is a pointer to its first element and its number of elements: bytes
+ * of a message or an output, words of a table.
+ *   - An empty buffer may be null.
+ *   - A table must be aligned as uint64_t is. Messages and outputs may begin
+ *     anywhere.
+ *   - Buffers lent to one call may not overlap.
+ *   - A buffer lent as const is never changed. What the others hold afterwards
+ *     is told with each operation, for every answer. What they held before
+ *     makes no difference to the answer.
+ *
+ * The archive is for machines whose size_t has 64 bits.
+ */
+typedef char msdtp_size_t_has_64_bits[sizeof(size_t) == 8 ? 1 : -1];
+
+/*
+ * NUMBERS
+ *
+ * The field `number` says how an operation ended: 0, or why it was refused. A
+ * message is a run of objects (STRUC, REPEAT, ..) that say items (see the
+ * table). STRUC, USTRUC, EDT, STRING and REPEAT are the containers.
+ *
+ * msdtp_read gives 0 to 11. It looks for 1; then from left to right for the
+ * first fault of 2 to 9; then for 10; then for 11. At one object the order is
+ * 4; 7 for an outermost REPEAT; 5; 2 or 3; 6 or 7; its contents; 8 or 9.
+ *
+ * msdtp_write gives 0 and 12 to 15, looked for in this order.
+ * msdtp_normal_length gives 0 and 12 to 14, as writing does.
+ * msdtp_normalise gives 0 to 11 as reading does, then 14 and 15. What was read
+ * is well formed and not too deep, so 12 and 13 are never due.
+ */
+#define MSDTP_ACCEPTED 0
+#define MSDTP_TOO_LONG 1       /* the message is over MSDTP_BYTE_LIMIT */
+#define MSDTP_PAST_INPUT 2     /* an outermost object passes the message's end */
+#define MSDTP_PAST_ENCLOSING 3 /* an inner object passes the enclosing one's end */
+#define MSDTP_UNASSIGNED 4     /* a reserved or unassigned type-byte */
+#define MSDTP_TOO_DEEP 5       /* a container inside sixteen others */
+#define MSDTP_BAD_BITS 6       /* SBITSTR without a marker in its first data
+                                  byte; LBITSTR without an INT first, with a
+                                  negative one, or with other bytes than it
+                                  needs for so many bits */
+#define MSDTP_BAD_REPEAT 7     /* REPEAT outermost, without an INT first, or
+                                  with a negative one */
+#define MSDTP_SEVERAL_KINDS 8  /* USTRUC whose elements are not of one kind; a
+                                  string and another STRUC are of two kinds */
+#define MSDTP_BAD_EDT 9        /* EDT that breaks the EDT rule (see the table) */
+#define MSDTP_TOO_MANY 10      /* over MSDTP_ROW_LIMIT or MSDTP_WORD_LIMIT */
+#define MSDTP_TABLE_SHORT 11   /* the lent table is too short */
+#define MSDTP_NOT_A_TABLE 12   /* the table to write is not well formed */
+#define MSDTP_TOO_NESTED 13    /* a STRUC or EDT inside sixteen others */
+#define MSDTP_NORMAL_LONG 14   /* the normal form is over MSDTP_BYTE_LIMIT */
+#define MSDTP_OUTPUT_SHORT 15  /* the lent output is too short */
+
+/* A number in plain words, for the person who is to be told. Never null. */
+static inline const char *msdtp_meaning(uint64_t number)
+{
+    switch (number) {
+    case 0: return "accepted";
+    case 1: return "the message is longer than 65,536 bytes";
+    case 2: return "the message ends in the middle of an object";
+    case 3: return "an object does not fit into the one that holds it";
+    case 4: return "a byte that means nothing in this format";
+    case 5: return "seventeen containers, one inside the other; sixteen are allowed";
+    case 6: return "a bit string that does not say how long it is, or says it wrongly";
+    case 7: return "a repeat where none may stand, or without a proper count";
+    case 8: return "a list that promises one kind and holds several";
+    case 9: return "an EDT whose first two elements are not its type and its version";
+    case 10: return "more than 16,384 rows, or more than 16,384 words of bits";
+    case 11: return "the table that was lent is too short";
+    case 12: return "what was given to write is no table of items";
+    case 13: return "more than sixteen containers, one inside the other";
+    case 14: return "the normal form would be longer than 65,536 bytes";
+    case 15: return "the output that was lent is too short";
+    default: return "no number of the list";
+    }
+}
+
+/*
+ * LIMITS AND SIZES
+ *
+ * What is exactly at a limit is within it.
+ */
+#define MSDTP_BYTE_LIMIT 65536 /* bytes of a message, and of a normal form */
+#define MSDTP_ROW_LIMIT 16384  /* rows of a table */
+#define MSDTP_WORD_LIMIT 16384 /* data words of a table */
+#define MSDTP_DEPTH_LIMIT 16   /* containers one inside another */
+
+#define MSDTP_HEADER_WORDS 4     /* words before the first row */
+#define MSDTP_ROW_WORDS 3        /* words of a row */
+#define MSDTP_TABLE_WORDS 65540  /* always enough for the table of a message */
+#define MSDTP_OUTPUT_BYTES 65536 /* always enough for a normal form */
+
+/*
+ * THE TABLE
+ *
+ * A table is uint64_t words: a header, then the rows, then the data words.
+ *
+ *   word 0   R, the number of rows
+ *   word 1   the number of outermost items
+ *   word 2   the offset of the data in the table: 4 + 3 * R
+ *   word 3   D, the number of data words
+ *   then     R rows of three words: kind, a, b. Row r is at word 4 + 3 * r
+ *   then     D data words, the bits of all BITS
+ *
+ * The table ends there, after 4 + 3 * R + D words. Words past the data belong
+ * to the caller: they are neither read nor changed.
+ *
+ *   kind               a                  b
+ *   INT                0                  the value in two's complement, so that
+ *                                         (uint64_t)-1 is -1; -2^63 to 2^63 - 1
+ *   BITS               number of bits     its first data word (see below)
+ *   CHAR               0                  the code, 0 to 127
+ *   BOOL               0                  0 for FALSE, 1 for TRUE
+ *   EMPTY              0                  0
+ *   XTRA               0                  0 to 3
+ *   STRUC, EDT         direct elements    rows beneath
+ */
+#define MSDTP_INT 1
+#define MSDTP_BITS 2
+#define MSDTP_CHAR 3
+#define MSDTP_BOOL 4
+#define MSDTP_EMPTY 5
+#define MSDTP_XTRA 6
+#define MSDTP_STRUC 7
+#define MSDTP_EDT 8
+
+/*
+ * Rows. Every item is one row, and the rows of its elements follow it at once,
+ * in order, each again followed by those of its own elements. The direct
+ * elements of a STRUC or EDT are the items right inside it. The rows beneath it
+ * are the rows of all items inside it, at any depth; an empty one has 0 and 0.
+ *
+ * To walk, begin at row 0; there are as many items as word 1 says. From the
+ * item in row r, the next item beside it is in row r + 1, or in row r + 1 + b
+ * if r is a STRUC or EDT. The elements of a STRUC or EDT in row r begin in row
+ * r + 1, and there are a of them.
+ *
+ * Strings. A STRUC whose elements are all CHAR, the empty one too, is a string.
+ * STRUC, USTRUC and STRING objects all say a STRUC; a table does not tell which
+ * one it was. REPEATs are laid out in full, and PADDING says nothing.
+ *
+ * The EDT rule. An EDT has two elements or more; the first is an INT or a
+ * string, the second an INT.
+ *
+ * Data words. Each BITS begins a new word. Its first bit is the highest bit of
+ * that word (UINT64_C(1) << 63), its 65th that of the next. n bits take n / 64
+ * words, rounded up, and the spare low bits of the last one are 0. The BITS
+ * follow one another in the order of their rows, with no word between them, so
+ * b is the number of data words that the BITS in the rows before it take. It is
+ * counted from the start of the data, not of the table: the first word is
+ * table[table[2] + b]. A BITS of no bits takes no word, and has that same b.
+ *
+ * A table is WELL FORMED when it is exactly the table of some items as told
+ * above, with at most MSDTP_ROW_LIMIT rows and MSDTP_WORD_LIMIT data words, and
+ * is lent whole. Any other words are refused with 12: another kind, an a or b
+ * that is not as told, elements that do not add up, a data word that belongs to
+ * no BITS, a spare bit that is not 0, an EDT against the rule, fewer words than
+ * the header tells. How deep it nests is not asked for there, but with 13.
+ */
+
+/*
+ * THE OPERATIONS
+ *
+ * Reads a message into a table. The answer:
+ *
+ *   number    place                               words
+ *   0         0                                   those of the table
+ *   2 to 9    offset in the message of the        0
+ *             faulty object's type-byte
+ *   11        0                                   those needed
+ *   1, 10     0                                   0
+ *
+ * With 0, the first `words` words of the table are the table of the message's
+ * items, and all words after them are as they were. With any other number the
+ * whole table is as it was. MSDTP_TABLE_WORDS are always enough.
  */
 struct msdtp_reading {
     uint64_t number, place, words;
 };
 
+struct msdtp_reading msdtp_read(const uint8_t *message, size_t message_len,
+                                uint64_t *table, size_t table_len);
+
 /*
- * What writing returns. `length` is the number of bytes of the normal form with
- * numbers 0 and 15, and otherwise 0.
+ * Writes the normal form of a table's items. Two messages have the same normal
+ * form exactly when they say the same items in the same order. The normal form
+ * is itself accepted and says these items, and no accepted message without
+ * repeats that says them is shorter.
+ *
+ * `length` is the number of bytes of the normal form with 0 and 15, and
+ * otherwise 0. With 0, the first `length` bytes of the output are the normal
+ * form, and all bytes after them are as they were. With any other number the
+ * whole output is as it was. MSDTP_OUTPUT_BYTES are always enough.
  */
 struct msdtp_writing {
     uint64_t number, length;
 };
 
+struct msdtp_writing msdtp_write(const uint64_t *table, size_t table_len,
+                                 uint8_t *output, size_t output_len);
+
 /*
- * What normalising returns: the first refusal, with reading's place and words
- * and writing's length, which is 0 if reading refuses.
+ * Tells the length of a table's normal form: what msdtp_write answers for an
+ * output that is long enough. With 12, 13 and 14 `length` is 0.
+ */
+struct msdtp_writing msdtp_normal_length(const uint64_t *table, size_t table_len);
+
+/*
+ * Reads a message into a table, then writes the normal form of that table.
+ *
+ *   0         as reading and writing with 0
+ *   1 to 11   reading's number, place and words; length is 0; table and output
+ *             are as they were
+ *   14, 15    writing's number and length, reading's words; place is 0; the
+ *             table holds the reading, and the output is as it was
  */
 struct msdtp_normalising {
     uint64_t number, place, words, length;
 };
 
-/*
- * Reads a message into a table. With number 0 the first `words` words of the
- * table are the table of the message's items, and all words after them are as
- * they were. With any other number the whole table is as it was.
- */
-struct msdtp_reading msdtp_read(const uint8_t *message, size_t message_len,
-                                uint64_t *table, size_t table_len);
-
-/*
- * Writes the normal form of a table's items. Words past the data are not looked
- * at. With number 0 the first `length` bytes of the output are the normal form,
- * and all bytes after them are as they were. With any other number the whole
- * output is as it was; with 15, `length` is the room needed.
- */
-struct msdtp_writing msdtp_write(const uint64_t *table, size_t table_len,
-                                 uint8_t *output, size_t output_len);
-
-/*
- * Tells the length of a table's normal form. It refuses with 12, 13 and 14 as
- * writing does.
- */
-struct msdtp_writing msdtp_normal_length(const uint64_t *table, size_t table_len);
-
-/*
- * Reads a message into a table, then writes its normal form. If reading
- * refuses (1 to 11), table and output are as they were. If writing refuses (14
- * or 15), the table holds the reading and the output is as it was.
- */
 struct msdtp_normalising msdtp_normalise(const uint8_t *message, size_t message_len,
                                          uint64_t *table, size_t table_len,
                                          uint8_t *output, size_t output_len);
+
+/*
+ * AN EXAMPLE, COMPLETE
+ *
+ *     #include <inttypes.h>
+ *     #include <stdio.h>
+ *     #include "msdtp.h"
+ *
+ *     // Two outermost items: a STRUC of the nine bits 001010011 and of a string,
+ *     // "A"; and the INT -5. Five rows, so the data is at 4 + 3 * 5 = 19.
+ *     static const uint64_t made[] = {
+ *         5, 2, 19, 1,
+ *         MSDTP_STRUC, 2, 3,
+ *         MSDTP_BITS, 9, 0,
+ *         MSDTP_STRUC, 1, 1,
+ *         MSDTP_CHAR, 0, 'A',
+ *         MSDTP_INT, 0, (uint64_t)-5,
+ *         UINT64_C(0x2980000000000000)
+ *     };
+ *     static uint64_t table[MSDTP_TABLE_WORDS];
+ *     static uint8_t output[MSDTP_OUTPUT_BYTES];
+ *
+ *     static void print_bits(uint64_t count, uint64_t first)
+ *     {
+ *         const uint64_t *words = table + table[2] + first;
+ *         for (uint64_t bit = 0; bit < count; bit++)
+ *             putchar(words[bit / 64] >> (63 - bit % 64) & 1 ? '1' : '0');
+ *         putchar('\n');
+ *     }
+ *
+ *     // Prints so many items, the first of them in this row.
+ *     static void print_items(uint64_t row, uint64_t count, int depth)
+ *     {
+ *         for (; count > 0; count--) {
+ *             const uint64_t *at = table + MSDTP_HEADER_WORDS + MSDTP_ROW_WORDS * row;
+ *             uint64_t kind = at[0], a = at[1], b = at[2];
+ *             printf("%*s", 2 * depth, "");
+ *             row++;
+ *             if (kind == MSDTP_STRUC || kind == MSDTP_EDT) {
+ *                 printf("%s\n", kind == MSDTP_STRUC ? "STRUC" : "EDT");
+ *                 print_items(row, a, depth + 1);
+ *                 row += b;
+ *             } else if (kind == MSDTP_BITS) {
+ *                 print_bits(a, b);
+ *             } else if (kind == MSDTP_INT) {
+ *                 printf("%" PRId64 "\n", (int64_t)b);
+ *             } else {
+ *                 printf("kind %" PRIu64 ": %" PRIu64 "\n", kind, b);
+ *             }
+ *         }
+ *     }
+ *
+ *     int main(void)
+ *     {
+ *         struct msdtp_writing w = msdtp_write(made, sizeof made / sizeof *made,
+ *                                              output, sizeof output);
+ *         printf("%s: %" PRIu64 " bytes\n", msdtp_meaning(w.number), w.length);
+ *         if (w.number != MSDTP_ACCEPTED)
+ *             return 1;
+ *         struct msdtp_reading r = msdtp_read(output, w.length,
+ *                                             table, MSDTP_TABLE_WORDS);
+ *         printf("%s: %" PRIu64 " words\n", msdtp_meaning(r.number), r.words);
+ *         if (r.number != MSDTP_ACCEPTED)
+ *             return 1;
+ *         print_items(0, table[1], 0);
+ *         return 0;
+ *     }
+ *
+ * It prints:
+ *
+ *     accepted: 10 bytes
+ *     accepted: 20 words
+ *     STRUC
+ *       001010011
+ *       STRUC
+ *         kind 3: 65
+ *     -5
+ */
 
 #ifdef __cplusplus
 }

@@ -4,7 +4,10 @@
 # of the folder that MSDTP_LIB_DIR names. The last line is 'N passed, M failed', and the exit status is 0 only when nothing
 # failed.
 set -u
+crate=msdtp
+messages=6
 cd "$(dirname "$0")/.." || exit 1
+archive=lib$crate.a
 library=$(cd "${MSDTP_LIB_DIR:-target/staticlib}" 2>/dev/null && pwd)
 [ -z "${MSDTP_LIB_DIR:-}" ] || export MSDTP_LIB_DIR="$library"
 folder=$(mktemp -d)
@@ -27,7 +30,7 @@ check() {
 }
 
 build_c() {
-    gcc -std=c99 -O2 -Wall -Wextra -pedantic -Werror -Iinclude examples/c/measure.c "$library/libmessage_c.a" -o "$folder/measure"
+    gcc -std=c99 -O2 -Wall -Wextra -pedantic -Werror -Iinclude examples/c/measure.c "$library/$archive" -o "$folder/measure"
 }
 
 run_c() {
@@ -51,17 +54,20 @@ compare() {
     diff "$expected" "$folder/printed"
 }
 
-if [ -z "$library" ] || [ ! -f "$library/libmessage_c.a" ]; then
-    printf 'The archive libmessage_c.a is not there. Build it with rt staticlib message_c, or set MSDTP_LIB_DIR to its folder.\n'
+if [ -z "$library" ] || [ ! -f "$library/$archive" ]; then
+    printf 'The archive %s is not there. Build it with rt staticlib %s, or set MSDTP_LIB_DIR to its folder.\n' "$archive" "$crate"
     printf '0 passed, 1 failed\n'
     exit 1
 fi
 check 'C example: build' build_c
 check 'Rust example: build' cargo_example build
+met=0
 for message in examples/*.msg; do
+    met=$((met + 1))
     name=$(basename "$message" .msg)
     check "C example: $name" compare "examples/c/expected/$name.txt" run_c "$message"
     check "Rust example: $name" compare "bindings/rust/expected/$name.txt" run_rust "$message"
 done
+check "$messages messages, $met met" [ "$met" -eq "$messages" ]
 printf '%s passed, %s failed\n' "$passed" "$failed"
-[ "$failed" -eq 0 ]
+[ "$failed" -eq 0 ] && [ "$passed" -gt 0 ]

@@ -1,10 +1,15 @@
 #!/usr/bin/env bash
 # Holds what sheetlist writes against the second program's text: every example, every message of the vectors that can be put on
-# one line, and messages at sheetlist's own limits. Ends with 'N passed, M failed'.
+# one line, and messages at sheetlist's own limits; then inputs that cannot be read to their end, and outputs that cannot be
+# written. Ends with 'N passed, M failed'.
 set -u
 cd "$(dirname "$0")/.." || exit 1
 program=target/bin/sheetlist
 second=second/target/release/second
+examples=6
+vectors=386
+unread='sheetlist: the sheet could not be read to its end; nothing is listed'
+unwritten='sheetlist: the listing could not be written'
 passed=0
 failed=0
 work=$(mktemp -d)
@@ -15,18 +20,35 @@ if [ ! -x "$program" ] || [ ! -x "$second" ]; then
     exit 1
 fi
 
-# Compares the two listings of one message, given in hexadecimal.
-compare() {
-    local name=$1 hex=$2
-    printf '%s' "$hex" | xxd -r -p >"$work/message"
-    "$program" <"$work/message" >"$work/ours"
-    printf 'list %s\n' "${hex:--}" | "$second" | sed 's/^text //; s/\\n/\n/g' | sed '$d' >"$work/theirs"
-    if cmp -s "$work/ours" "$work/theirs"; then
+# check NAME COMMAND..: counts the command by its exit status.
+check() {
+    local name=$1
+    shift
+    if "$@"; then
         passed=$((passed + 1))
     else
         failed=$((failed + 1))
-        printf 'different listings of %s: %s\n' "$name" "$(printf '%s' "$hex" | cut -c1-200)"
+        printf 'failed: %s\n' "$name"
     fi
+}
+
+# The program lists the message of $work/message, and says nothing on standard error.
+ours() {
+    "$program" <"$work/message" >"$work/ours" 2>"$work/said" && [ ! -s "$work/said" ] && grep -qE '^(accepted|refused) ' "$work/ours"
+}
+
+# The second program's listing of a message in hexadecimal.
+theirs() {
+    local line
+    line=$(printf 'list %s\n' "${1:--}" | "$second") || return
+    line=${line#text }
+    printf '%s' "${line//\\n/$'\n'}" >"$work/theirs"
+}
+
+# Both list one message, given in hexadecimal, alike.
+alike() {
+    printf '%s' "$1" | xxd -r -p >"$work/message"
+    ours && theirs "$1" && cmp "$work/ours" "$work/theirs"
 }
 
 # A byte as often as said, in hexadecimal.
@@ -34,18 +56,56 @@ many() {
     printf "$1%.0s" $(seq "$2")
 }
 
+# Lists with input and output as the caller set them: nothing is listed, and one line on standard error says why.
+complains() {
+    local words=$1
+    shift
+    "$@" 2>"$work/said"
+    [ "$(cat "$work/said")" = "$words" ] && [ ! -s "$work/ours" ]
+}
+
+of_folder() { "$program" <examples >"$work/ours"; }
+of_nothing() { "$program" <&- >"$work/ours"; }
+to_full() { : >"$work/ours" && "$program" <examples/kinds.msg >/dev/full; }
+to_nothing() { : >"$work/ours" && "$program" <examples/kinds.msg >&-; }
+
+# The first bytes of a message from a terminal that is then hung up: the next read fails, and none after it answers otherwise.
+of_terminal() {
+    python3 - "$program" "$1" >"$work/ours" <<'END'
+import os, subprocess, sys, tty
+master, slave = os.openpty()
+tty.setraw(slave)
+os.write(slave, open("examples/batch.msg", "rb").read()[:int(sys.argv[2])])
+os.close(slave)
+subprocess.run([sys.argv[1]], stdin=master, check=True)
+END
+}
+
+met=0
 for file in examples/*.msg; do
-    compare "$file" "$(xxd -p "$file" | tr -d '\n')"
+    check "$file" alike "$(xxd -p "$file" | tr -d '\n')"
+    met=$((met + 1))
 done
+check "$examples examples, $met met" [ "$met" -eq "$examples" ]
+met=0
 while read -r line; do
-    compare "a vector" "$(printf '%s' "$line" | tr -d ' ')"
+    check "the vector $line" alike "${line// /}"
+    met=$((met + 1))
 done < <(sed -nE 's/^message ?([0-9A-Fa-f ]*)$/\1/p' tests/vectors/*.txt | sort -u)
-compare '32,768 bytes' "$(many FF 32768)"
-compare '32,769 bytes' "$(many FF 32769)"
-compare '2,665 rows' "$(many 81 2665)"
-compare '2,666 rows' "$(many 81 2666)"
-compare '235,680 bits' "C1827318E30398A0$(many A5 29460)"
-compare '1,998 bit strings' 'C20EC40CE207CEF0FEDCBA9876543210'
-compare '1,999 bit strings' 'C20EC40CE207CFF0FEDCBA9876543210'
+check "$vectors messages of vectors, $met met" [ "$met" -eq "$vectors" ]
+check '32,768 bytes' alike "$(many FF 32768)"
+check '32,769 bytes' alike "$(many FF 32769)"
+check '2,665 rows' alike "$(many 81 2665)"
+check '2,666 rows' alike "$(many 81 2666)"
+check '235,680 bits' alike "C1827318E30398A0$(many A5 29460)"
+check '1,998 bit strings' alike 'C20EC40CE207CEF0FEDCBA9876543210'
+check '1,999 bit strings' alike 'C20EC40CE207CFF0FEDCBA9876543210'
+check 'a folder as input' complains "$unread" of_folder
+check 'a closed input' complains "$unread" of_nothing
+check 'a read that fails at once' complains "$unread" of_terminal 0
+check 'a read that fails after 17 of 48 bytes' complains "$unread" of_terminal 17
+check 'a read that fails after all 48 bytes' complains "$unread" of_terminal 48
+check 'a full output' complains "$unwritten" to_full
+check 'a closed output' complains "$unwritten" to_nothing
 printf '%s passed, %s failed\n' "$passed" "$failed"
-[ "$failed" -eq 0 ]
+[ "$failed" -eq 0 ] && [ "$passed" -gt 0 ]

@@ -4,7 +4,7 @@
 use std::path::{Path, PathBuf};
 use std::process::exit;
 
-const ARCHIVE: &str = "libmessage_c.a";
+const ARCHIVE: &str = "libmsdtp.a";
 
 fn main() {
     let folder = folder();
@@ -16,7 +16,7 @@ fn main() {
         refuse(&archive)
     }
     println!("cargo::rustc-link-search=native={}", folder.display());
-    println!("cargo::rustc-link-lib=static=message_c");
+    println!("cargo::rustc-link-lib=static=msdtp");
 }
 
 fn folder() -> PathBuf {
@@ -28,7 +28,7 @@ fn folder() -> PathBuf {
 
 fn refuse(archive: &Path) -> ! {
     eprintln!("{} is not there.", archive.display());
-    eprintln!("Build it with `rt staticlib message_c` in the repository's root,");
+    eprintln!("Build it with `rt staticlib msdtp` in the repository's root,");
     eprintln!("or set MSDTP_LIB_DIR to the folder that has it.");
     exit(1)
 }

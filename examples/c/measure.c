@@ -1,9 +1,9 @@
 /*
  * Lists the items of a message, or prints why it is refused, then prints the
- * normal form. From the repository's root, once `rt staticlib message_c` has
+ * normal form. From the repository's root, once `rt staticlib msdtp` has
  * made the archive:
  *
- *   gcc -std=c99 -Wall -Wextra -pedantic -Iinclude examples/c/measure.c target/staticlib/libmessage_c.a -o target/measure
+ *   gcc -std=c99 -Wall -Wextra -pedantic -Iinclude examples/c/measure.c target/staticlib/libmsdtp.a -o target/measure
  *   target/measure examples/empty-chest.msg
  *
  * The exit status is 0 for a message that is read, 1 for one that is refused,
@@ -15,48 +15,21 @@
 
 #include "msdtp.h"
 
-/* Enough for every table and every normal form. */
-enum { TABLE_WORDS = 65540, OUTPUT_BYTES = 65536 };
-
 /* One byte more than a message may have, so that a longer file is refused. */
-enum { MESSAGE_BYTES = 65537 };
-
-/* STRUCs and EDTs stand inside one another at most so deep. */
-enum { MOST_NESTED = 16 };
-
-enum { INT = 1, BITS, CHAR, BOOL, EMPTY, XTRA, STRUC, EDT };
+enum { MESSAGE_BYTES = MSDTP_BYTE_LIMIT + 1 };
 
 static uint8_t message[MESSAGE_BYTES];
-static uint64_t table[TABLE_WORDS];
-static uint8_t output[OUTPUT_BYTES];
-
-static const char *const meanings[] = {
-    "accepted",
-    "the message is longer than 65,536 bytes",
-    "the message ends in the middle of an object",
-    "an object does not fit into the one that holds it",
-    "a byte that means nothing in this format",
-    "seventeen containers, one inside the other; sixteen are allowed",
-    "a bit string that does not say how long it is, or says it wrongly",
-    "a repeat where none may stand, or without a proper count",
-    "a list that promises one kind and holds several",
-    "an EDT whose first two elements are not its type and its version",
-    "more than 16,384 rows, or more than 16,384 words of bits",
-    "the table that was lent is too short",
-    "what was given to write is no table of items",
-    "more than sixteen containers, one inside the other",
-    "the normal form would be longer than 65,536 bytes",
-    "the output that was lent is too short"
-};
+static uint64_t table[MSDTP_TABLE_WORDS];
+static uint8_t output[MSDTP_OUTPUT_BYTES];
 
 /* Prints a refusal and gives the exit status for it. Writing's have no place. */
 static int refused(uint64_t number, uint64_t place)
 {
     printf("refused %" PRIu64, number);
-    if (number <= 11) {
+    if (number <= MSDTP_TABLE_SHORT) {
         printf(" at %" PRIu64, place);
     }
-    printf(": %s\n", meanings[number]);
+    printf(": %s\n", msdtp_meaning(number));
     return 1;
 }
 
@@ -89,14 +62,14 @@ static void print_row(const uint64_t *row)
     uint64_t a = row[1], b = row[2];
 
     switch (row[0]) {
-    case INT: print_int(b); break;
-    case BITS: print_bits(a, b); break;
-    case CHAR: printf("CHAR %" PRIu64 "\n", b); break;
-    case BOOL: printf("BOOL %s\n", b ? "TRUE" : "FALSE"); break;
-    case EMPTY: printf("EMPTY: stop and ask\n"); break;
-    case XTRA: printf("XTRA %" PRIu64 "\n", b); break;
-    case STRUC: printf("STRUC of %" PRIu64 "\n", a); break;
-    case EDT: printf("EDT of %" PRIu64 "\n", a); break;
+    case MSDTP_INT: print_int(b); break;
+    case MSDTP_BITS: print_bits(a, b); break;
+    case MSDTP_CHAR: printf("CHAR %" PRIu64 "\n", b); break;
+    case MSDTP_BOOL: printf("BOOL %s\n", b ? "TRUE" : "FALSE"); break;
+    case MSDTP_EMPTY: printf("EMPTY: stop and ask\n"); break;
+    case MSDTP_XTRA: printf("XTRA %" PRIu64 "\n", b); break;
+    case MSDTP_STRUC: printf("STRUC of %" PRIu64 "\n", a); break;
+    case MSDTP_EDT: printf("EDT of %" PRIu64 "\n", a); break;
     }
 }
 
@@ -108,18 +81,18 @@ static void print_row(const uint64_t *row)
  */
 static void print_rows(void)
 {
-    uint64_t ends[MOST_NESTED], at;
+    uint64_t ends[MSDTP_DEPTH_LIMIT], at;
     int depth = 0;
 
     for (at = 0; at < table[0]; at++) {
-        const uint64_t *row = table + 4 + 3 * at;
+        const uint64_t *row = table + MSDTP_HEADER_WORDS + MSDTP_ROW_WORDS * at;
 
         while (depth > 0 && ends[depth - 1] == at) {
             depth--;
         }
         printf("%*s", 2 * depth, "");
         print_row(row);
-        if ((row[0] == STRUC || row[0] == EDT) && row[2] > 0) {
+        if ((row[0] == MSDTP_STRUC || row[0] == MSDTP_EDT) && row[2] > 0) {
             ends[depth++] = at + 1 + row[2];
         }
     }
@@ -128,9 +101,9 @@ static void print_rows(void)
 /* Reads the message, then lists it. The table then holds its items. */
 static int list(size_t length)
 {
-    struct msdtp_reading reading = msdtp_read(message, length, table, TABLE_WORDS);
+    struct msdtp_reading reading = msdtp_read(message, length, table, MSDTP_TABLE_WORDS);
 
-    if (reading.number != 0) {
+    if (reading.number != MSDTP_ACCEPTED) {
         return refused(reading.number, reading.place);
     }
     printf("accepted: %" PRIu64 " outermost, %" PRIu64 " rows, %" PRIu64 " words\n",
@@ -143,10 +116,11 @@ static int list(size_t length)
 static int print_normal_form(size_t length)
 {
     struct msdtp_normalising normal =
-        msdtp_normalise(message, length, table, TABLE_WORDS, output, OUTPUT_BYTES);
+        msdtp_normalise(message, length, table, MSDTP_TABLE_WORDS,
+                        output, MSDTP_OUTPUT_BYTES);
     uint64_t at;
 
-    if (normal.number != 0) {
+    if (normal.number != MSDTP_ACCEPTED) {
         return refused(normal.number, normal.place);
     }
     printf("normal form, %" PRIu64 " bytes:", normal.length);

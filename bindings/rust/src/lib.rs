@@ -26,8 +26,10 @@
 #![deny(unsafe_code, missing_docs)]
 
 mod bits;
+pub mod kinds;
 #[allow(unsafe_code)]
 mod library;
+pub mod numbers;
 mod operations;
 mod refused;
 mod rows;
@@ -39,9 +41,30 @@ pub use operations::{normal_length, normalise, read, write, Normalised, Read};
 pub use refused::Refused;
 pub use rows::{rows, Items, Row, Rows};
 
-/// So many words are enough for the table of every message: a header of four,
-/// 16,384 rows of three, and 16,384 data words.
-pub const TABLE_WORDS: usize = 65_540;
+/// The version of this crate and of the C header `msdtp.h`.
+pub const VERSION: &str = env!("CARGO_PKG_VERSION");
+
+/// A message has at most so many bytes, and so has a normal form.
+pub const BYTE_LIMIT: usize = 65_536;
+
+/// A table has at most so many rows.
+pub const ROW_LIMIT: usize = 16_384;
+
+/// A table has at most so many data words.
+pub const WORD_LIMIT: usize = 16_384;
+
+/// At most so many containers stand one inside another.
+pub const DEPTH_LIMIT: usize = 16;
+
+/// A table has so many words before its first row.
+pub const HEADER_WORDS: usize = 4;
+
+/// A row of a table has so many words.
+pub const ROW_WORDS: usize = 3;
+
+/// So many words are enough for the table of every message: the header, and as
+/// many rows and data words as there may be.
+pub const TABLE_WORDS: usize = HEADER_WORDS + ROW_WORDS * ROW_LIMIT + WORD_LIMIT;
 
 /// So many bytes are enough for every normal form.
-pub const OUTPUT_BYTES: usize = 65_536;
+pub const OUTPUT_BYTES: usize = BYTE_LIMIT;

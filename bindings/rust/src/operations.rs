@@ -1,6 +1,7 @@
 //! The four operations, with answers as results.
 
 use crate::library;
+use crate::numbers::{ACCEPTED, TABLE_SHORT, TOO_LONG};
 use crate::refused::Refused;
 use crate::sys::Writing;
 
@@ -41,7 +42,7 @@ pub fn read(message: &[u8], table: &mut [u64]) -> Result<Read, Refused> {
     let answer = library::read(message, table);
     let words = answer.words as usize;
     match answer.number {
-        0 => Ok(Read { words }),
+        ACCEPTED => Ok(Read { words }),
         number => Err(Refused {
             number,
             place: answer.place as usize,
@@ -92,7 +93,7 @@ pub fn normal_length(table: &[u64]) -> Result<usize, Refused> {
 fn written(answer: Writing) -> Result<usize, Refused> {
     let length = answer.length as usize;
     match answer.number {
-        0 => Ok(length),
+        ACCEPTED => Ok(length),
         number => Err(Refused {
             number,
             place: 0,
@@ -132,8 +133,8 @@ pub fn normalise(
     let answer = library::normalise(message, table, output);
     let (words, length) = (answer.words as usize, answer.length as usize);
     let (needed, held) = match answer.number {
-        0 => return Ok(Normalised { words, length }),
-        1..=11 => (words, 0),
+        ACCEPTED => return Ok(Normalised { words, length }),
+        TOO_LONG..=TABLE_SHORT => (words, 0),
         _ => (length, words),
     };
     Err(Refused {

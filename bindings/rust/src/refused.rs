@@ -1,5 +1,6 @@
 //! A refusal, and what its number says.
 
+use crate::numbers::{OUTPUT_SHORT, TABLE_SHORT};
 use std::error::Error;
 use std::fmt::{Display, Formatter, Result};
 
@@ -19,7 +20,8 @@ use std::fmt::{Display, Formatter, Result};
 #[derive(Clone, Copy, Debug, PartialEq, Eq)]
 #[non_exhaustive]
 pub struct Refused {
-    /// From 1 to 15: reading gives 1 to 11, writing 12 to 15.
+    /// From 1 to 15, by name in [`numbers`](crate::numbers): reading gives 1 to
+    /// 11, writing 12 to 15.
     pub number: u64,
     /// The offset of the faulty object's type-byte with 2 to 9, otherwise 0.
     pub place: usize,
@@ -65,13 +67,13 @@ impl Refused {
 impl Display for Refused {
     fn fmt(&self, to: &mut Formatter<'_>) -> Result {
         write!(to, "refused {}", self.number)?;
-        if self.number <= 11 {
+        if self.number <= TABLE_SHORT {
             write!(to, " at {}", self.place)?;
         }
         write!(to, ": {}", self.meaning())?;
         match self.number {
-            11 => write!(to, "; words needed: {}", self.needed),
-            15 => write!(to, "; bytes needed: {}", self.needed),
+            TABLE_SHORT => write!(to, "; words needed: {}", self.needed),
+            OUTPUT_SHORT => write!(to, "; bytes needed: {}", self.needed),
             _ => Ok(()),
         }
     }

@@ -1,6 +1,8 @@
 //! A view of a table's rows that no words can make panic.
 
 use crate::bits::Bits;
+use crate::kinds::{BITS, BOOL, CHAR, EDT, EMPTY, INT, STRUC, XTRA};
+use crate::{HEADER_WORDS, ROW_WORDS};
 use std::iter::FusedIterator;
 
 /// One row of a table.
@@ -53,7 +55,7 @@ pub enum Row<'t> {
 impl<'t> Row<'t> {
     /// The row of three words with so many rows after it, or `None` where that
     /// is no row.
-    fn of(words: &[u64; 3], after: usize, data: &'t [u64]) -> Option<Row<'t>> {
+    fn of(words: &[u64; ROW_WORDS], after: usize, data: &'t [u64]) -> Option<Row<'t>> {
         let [kind, a, b] = *words;
         let container = || {
             let beneath = usize::try_from(b).ok().filter(|&rows| rows <= after)?;
@@ -61,14 +63,14 @@ impl<'t> Row<'t> {
             Some((elements, beneath))
         };
         match (kind, a, b) {
-            (1, 0, _) => Some(Row::Int(b as i64)),
-            (2, ..) => Bits::within(data, b, a).map(Row::Bits),
-            (3, 0, 0..=127) => Some(Row::Char(b as u8)),
-            (4, 0, 0..=1) => Some(Row::Bool(b == 1)),
-            (5, 0, 0) => Some(Row::Empty),
-            (6, 0, 0..=3) => Some(Row::Xtra(b as u8)),
-            (7, ..) => container().map(|(elements, beneath)| Row::Struc { elements, beneath }),
-            (8, ..) => container().map(|(elements, beneath)| Row::Edt { elements, beneath }),
+            (INT, 0, _) => Some(Row::Int(b as i64)),
+            (BITS, ..) => Bits::within(data, b, a).map(Row::Bits),
+            (CHAR, 0, 0..=127) => Some(Row::Char(b as u8)),
+            (BOOL, 0, 0..=1) => Some(Row::Bool(b == 1)),
+            (EMPTY, 0, 0) => Some(Row::Empty),
+            (XTRA, 0, 0..=3) => Some(Row::Xtra(b as u8)),
+            (STRUC, ..) => container().map(|(elements, beneath)| Row::Struc { elements, beneath }),
+            (EDT, ..) => container().map(|(elements, beneath)| Row::Edt { elements, beneath }),
             _ => None,
         }
     }
@@ -85,7 +87,7 @@ impl<'t> Row<'t> {
 /// Rows in the order of the table; made by [`rows`].
 #[derive(Clone, Debug, Default)]
 pub struct Rows<'t> {
-    /// Three words for each row that is left.
+    /// The words of the rows that are left.
     left: &'t [u64],
     data: &'t [u64],
 }
@@ -118,10 +120,10 @@ pub fn rows(table: &[u64]) -> Rows<'_> {
 /// A table's rows and data, if its header fits it.
 fn parted(table: &[u64]) -> Option<Rows<'_>> {
     let (&[count, _, data_at, data_words], rest) = table.split_first_chunk()?;
-    let row_words = usize::try_from(count).ok()?.checked_mul(3)?;
+    let row_words = usize::try_from(count).ok()?.checked_mul(ROW_WORDS)?;
     let (left, rest) = rest.split_at_checked(row_words)?;
     let data = rest.get(..usize::try_from(data_words).ok()?)?;
-    (data_at == 4 + row_words as u64).then_some(Rows { left, data })
+    (data_at == (HEADER_WORDS + row_words) as u64).then_some(Rows { left, data })
 }
 
 impl<'t> Rows<'t> {
@@ -149,7 +151,7 @@ impl<'t> Rows<'t> {
 
     /// The next so many rows, at most those left, which are passed over.
     fn pass(&mut self, count: usize) -> Rows<'t> {
-        let words = count.saturating_mul(3).min(self.left.len());
+        let words = count.saturating_mul(ROW_WORDS).min(self.left.len());
         let (passed, left) = self.left.split_at(words);
         self.left = left;
         Rows {
@@ -164,13 +166,13 @@ impl<'t> Iterator for Rows<'t> {
 
     fn next(&mut self) -> Option<Row<'t>> {
         let (words, after) = self.left.split_first_chunk()?;
-        let row = Row::of(words, after.len() / 3, self.data);
+        let row = Row::of(words, after.len() / ROW_WORDS, self.data);
         self.left = if row.is_some() { after } else { &[] };
         row
     }
 
     fn size_hint(&self) -> (usize, Option<usize>) {
-        (0, Some(self.left.len() / 3))
+        (0, Some(self.left.len() / ROW_WORDS))
     }
 }
 

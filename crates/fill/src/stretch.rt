@@ -7,6 +7,7 @@ ghost use Rattle.format.specs.Answers.{over};
 ghost use Rattle.wire.specs.Heads.{lateKind, lateValue};
 ghost use Rattle.fill.specs.Stretch.{Ranged, LongOf, Stretched};
 use super::least::least;
+use format::signed::word_of;
 use wire::integer::following_of;
 use wire::integer::integer_of;
 use wire::late::late_row;
@@ -76,7 +77,12 @@ fn put_same(s: &[u8], i: usize, table: &mut [u64], used: usize, b: u8, k: usize)
             return Stretch { upto, rows };
         }
         let behind = upto + 1;
-        put_at(table, used + 3 * rows, 1, integer_of(&s[behind..], k));
+        put_at(
+            table,
+            used + 3 * rows,
+            1,
+            word_of(integer_of(&s[behind..], k)),
+        );
         upto = behind + k;
         rows += 1;
     }
@@ -97,7 +103,7 @@ fn put_integers(s: &[u8], i: usize, table: &mut [u64], used: usize, b: u8) -> St
     if left < k {
         return Stretch { upto: i, rows: 0 };
     }
-    put_at(table, used, 1, integer_of(&s[behind..], k));
+    put_at(table, used, 1, word_of(integer_of(&s[behind..], k)));
     Stretch {
         upto: behind + k,
         rows: 1,

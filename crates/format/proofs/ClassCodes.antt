@@ -9,7 +9,7 @@ use lib.ListN.{length, getD, List·getD-eq-default}
 use Rattle.format.specs.declared.Class.{Class}
 use Rattle.format.specs.declared.Class.the-variants as C
 use Rattle.format.specs.Choice.{both}
-use Rattle.format.specs.Classes.{codeOf}
+use Rattle.format.specs.Codes.{codeOf}
 use Rattle.format.proofs.Choices.{both-left, both-right}
 
 -- the classes in the order of their codes, and the class of a code

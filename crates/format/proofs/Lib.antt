@@ -1,6 +1,7 @@
 pub mod Choices
 pub mod Parts
 pub mod Digits
+pub mod SignedLaws
 pub mod BitLaws
 pub mod Marker
 pub mod Steps

@@ -23,21 +23,3 @@ classOf b =
     (ifLt b 0xfc Xtra
     (ifLt b 0xfe Bool
     (ifEq b 0xfe Empty Padding)))))))))))))))
-
--- the place of a class in the code's list of them
-unfoldable pub codeOf : Class → ℕ
-codeOf Char7 = 0
-codeOf Sinteger = 1
-codeOf Linteger = 2
-codeOf Sbitstr = 3
-codeOf Lbitstr = 4
-codeOf String = 5
-codeOf Struc = 6
-codeOf Ustruc = 7
-codeOf Edt = 8
-codeOf Repeat = 9
-codeOf Xtra = 10
-codeOf Bool = 11
-codeOf Empty = 12
-codeOf Padding = 13
-codeOf Reserved = 14

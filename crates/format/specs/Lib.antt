@@ -1,4 +1,5 @@
--- The meanings, in the order in which they are best read. They cite the paper's sentences; nothing here follows the code.
+-- The meanings, in the order in which they are best read. They cite the paper's sentences and do not follow the code. The paper is
+-- the order by which this product was built; docs/FORMAT.md has its rules.
 pub mod Choice
 pub mod Numbers
 pub mod Bits
@@ -11,3 +12,5 @@ pub mod Tables
 pub mod Normal
 pub mod Answers
 pub mod Examples
+-- No meaning: how the code numbers the classes.
+pub mod Codes

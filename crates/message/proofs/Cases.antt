@@ -1,45 +1,71 @@
--- What holds of the four answers case by case: the ground of the theorems in Demands.antt. Assumes nothing.
-use Prim.Native.Nat.{ℕ, _≤_}
-use mathlib.Core.Path.{_≡_, refl, ap, _∙_}
+-- What holds of the four answers case by case: the ground of the theorems in Demands.antt, ReadExactly.antt,
+-- WriteExactly.antt and NormaliseExactly.antt. Assumes nothing.
+use Prim.Native.Nat.{ℕ, _≤_, _<_}
+use mathlib.Core.Path.{_≡_, refl, sym, ap, _∙_, subst}
+use mathlib.Core.Logic.{inl, inr, _↔_}
 use mathlib.Core.Option.{Option, none, some}
-use mathlib.Core.List.{List}
+use mathlib.Core.List.{List, _++_}
 use native.Mathlib.Omega.{arith}
-use lib.ListN.{length, drop}
-use lib.Seq.{drop-at}
-use Rattle.format.specs.Refusals.{byteLimit, rowLimit, wordLimit, depthLimit}
+use lib.ListN.{length, drop, take-append-drop}
+use Rattle.format.specs.Refusals.{Fault, byteLimit, rowLimit, wordLimit, depthLimit}
 use Rattle.format.specs.Items.{Items}
 use Rattle.format.specs.Messages.{Outcome, refused, says, outcome}
 use Rattle.format.specs.Tables.{rows, dataWords, tableOf, wordsNeeded, itemsOf}
 use Rattle.format.specs.Normal.{normal, depth}
-use Rattle.format.specs.Answers.{Reading, over, laid, readingOf, reading, Writing, judged, put, writing}
+use Rattle.format.specs.Answers.{Reading, unread, over, laid, readingOf, reading, Writing, unwritten, judged, put, writing}
 use Rattle.format.proofs.Choices.{ifLt-no, byLt}
-use Rattle.format.proofs.Faults.{fault-number}
-use Rattle.message.specs.Words.{NoneDue, Writable}
+use Rattle.format.proofs.Faults.{fault-inside}
+use Rattle.format.proofs.TableLaws.{table-back, table-only}
+use Rattle.message.specs.Words.{Says, NoneDue, OverLimits, IsTable, NoTable, Writable}
+
+-- two things that both hold, or that both fail
+pub both-hold {ℓ κ} : {A : Type ℓ} {B : Type κ} → A → B → A ↔ B
+both-hold a b = (λ x. b, λ x. a)
+
+pub both-fail {ℓ κ} : {A : Type ℓ} {B : Type κ} → ¬ A → ¬ B → A ↔ B
+both-fail a b = (λ x. absurd (a x), λ x. absurd (b x))
 
 -- ---- reading
+-- what is said is not refused, and is said alone
+pub not-both : (m : List ℕ) (xs : Items) (f : Fault) → Says m xs → ¬ (outcome m ≡ refused f)
+not-both m xs f s e = let z : _≡_ {A = ℕ} 0 1 = cc in absurd (omega arith)
+
+pub said-once : (m : List ℕ) (xs ys : Items) → Says m xs → Says m ys → xs ≡ ys
+said-once m xs ys s e = cc
+
+-- A fact of each answer that reading can give, with what makes it due, is a fact of its answer: 1; 2 to 9; 10; 11; 0.
+pub read-by : (m t : List ℕ) (P : Reading → Type 0) → (byteLimit < length m → P (unread 1 0 0 t))
+    → ((f : Fault) → length m ≤ byteLimit → outcome m ≡ refused f → P (unread (f .number) (f .place) 0 t))
+    → ((xs : Items) → length m ≤ byteLimit → Says m xs → OverLimits xs → P (unread 10 0 0 t))
+    → ((xs : Items) → NoneDue m xs (wordsNeeded xs) → length t < wordsNeeded xs → P (unread 11 0 (wordsNeeded xs) t))
+    → ((xs : Items) → NoneDue m xs (length t) → P (record { number = 0; place = 0; words = wordsNeeded xs; table = over (tableOf xs) t }))
+    → P (reading m t)
+unfolding reading
+read-by m t P one fault many room all = byLt P byteLimit (length m) one (λ l. go (outcome m) l refl)
+  where
+    go : (o : Outcome) → length m ≤ byteLimit → outcome m ≡ o → P (readingOf o t)
+    go (refused f) l e = unfold readingOf in fault f l e
+    go (says xs) l e =
+        unfold readingOf laid in
+        byLt P rowLimit (rows xs) (λ h. many xs l e (inl h))
+        (λ r. byLt P wordLimit (length (dataWords xs)) (λ h. many xs l e (inr h))
+        (λ w. byLt P (length t) (wordsNeeded xs)
+        (room xs (record { short = l; said = e; few-rows = r; few-words = w; room = omega arith }))
+        (λ n. all xs (record { short = l; said = e; few-rows = r; few-words = w; room = n }))))
+
 -- accepted, with everything determined; or refused with one of the numbers 1 to 11, and the table as lent
 pub data Read (m t : List ℕ) : Reading → Type 0 where
   accepted : (xs : Items) → NoneDue m xs (length t)
       → Read m t (record { number = 0; place = 0; words = wordsNeeded xs; table = over (tableOf xs) t })
   no-reading : (n p w : ℕ) → 1 ≤ n → n ≤ 11 → Read m t (record { number = n; place = p; words = w; table = t })
 
-laid-read : (m t : List ℕ) (xs : Items) → length m ≤ byteLimit → outcome m ≡ says xs → Read m t (laid xs t)
-unfolding laid
-laid-read m t xs l s =
-    byLt (Read m t) rowLimit (rows xs) (λ h. no-reading 10 0 0 (omega arith) (omega arith))
-    (λ r. byLt (Read m t) wordLimit (length (dataWords xs)) (λ h. no-reading 10 0 0 (omega arith) (omega arith))
-    (λ w. byLt (Read m t) (length t) (wordsNeeded xs) (λ h. no-reading 11 0 (wordsNeeded xs) (omega arith) (omega arith))
-    (λ n. accepted xs (record { short = l; said = s; few-rows = r; few-words = w; room = n }))))
-
-outcome-read : (m t : List ℕ) (o : Outcome) → length m ≤ byteLimit → outcome m ≡ o → Read m t (readingOf o t)
-unfolding readingOf
-outcome-read m t (refused f) l e = let n = fault-number m f e in no-reading (f .number) (f .place) 0 (omega arith) (omega arith)
-outcome-read m t (says xs) l e = laid-read m t xs l e
-
 pub read-cases : (m t : List ℕ) → Read m t (reading m t)
-unfolding reading
 read-cases m t =
-    byLt (Read m t) byteLimit (length m) (λ h. no-reading 1 0 0 (omega arith) (omega arith)) (λ l. outcome-read m t (outcome m) l refl)
+    read-by m t (Read m t) (λ h. no-reading 1 0 0 (omega arith) (omega arith))
+    (λ f l e. let n = fault-inside m f e in no-reading (f .number) (f .place) 0 (omega arith) (omega arith))
+    (λ xs l s h. no-reading 10 0 0 (omega arith) (omega arith))
+    (λ xs d h. no-reading 11 0 (wordsNeeded xs) (omega arith) (omega arith))
+    accepted
 
 pub read-due : (m t : List ℕ) (xs : Items) → NoneDue m xs (length t)
     → reading m t ≡ record { number = 0; place = 0; words = wordsNeeded xs; table = over (tableOf xs) t }
@@ -50,24 +76,75 @@ read-due m t xs f =
     ∙ ifLt-no (length t) (wordsNeeded xs) _ _ (f .room)
 
 -- ---- writing
+-- a table is judged to be the table of some items exactly when it is
+pub items-of-table : (w : List ℕ) (xs : Items) → IsTable w xs → itemsOf w ≡ some xs
+items-of-table w xs i =
+    subst (λ l. itemsOf l ≡ some xs) (ap (λ l. l ++ drop (length (tableOf xs)) w) (sym (i .exact)) ∙ take-append-drop (length (tableOf xs)) w)
+    (table-back xs (drop (length (tableOf xs)) w) (i .lawful))
+
+pub table-of-items : (w : List ℕ) (xs : Items) → itemsOf w ≡ some xs → IsTable w xs
+table-of-items w xs e = let h = table-only w xs e in record { lawful = h .0; exact = h .2 }
+
+no-items : (w : List ℕ) → itemsOf w ≡ none → NoTable w
+no-items w e xs i = let s = items-of-table w xs i in let z : _≡_ {A = ℕ} 0 1 = cc in absurd (omega arith)
+
+-- words are the table of one list of items at most
+pub one-table : (w : List ℕ) (xs ys : Items) → IsTable w xs → IsTable w ys → xs ≡ ys
+one-table w xs ys i j =
+    let e = items-of-table w xs i in
+    let f = items-of-table w ys j in
+    cc
+
+pub same-depth : (w : List ℕ) (xs ys : Items) → IsTable w xs → IsTable w ys → depth xs ≡ depth ys
+same-depth w xs ys i j = ap depth (one-table w xs ys i j)
+
+pub same-length : (w : List ℕ) (xs ys : Items) → IsTable w xs → IsTable w ys → length (normal xs) ≡ length (normal ys)
+same-length w xs ys i j = ap (λ z. length (normal z)) (one-table w xs ys i j)
+
+-- A fact of each answer that can be given for a table, with what makes it due, is a fact of the answer: 12; 13; 14; what follows.
+pub judged-by : (w o : List ℕ) (f : List ℕ → Writing) (P : Writing → Type 0) → (NoTable w → P (unwritten 12 0 o))
+    → ((xs : Items) → IsTable w xs → depthLimit < depth xs → P (unwritten 13 0 o))
+    → ((xs : Items) → IsTable w xs → depth xs ≤ depthLimit → byteLimit < length (normal xs) → P (unwritten 14 0 o))
+    → ((xs : Items) → IsTable w xs → Writable xs (length (normal xs)) → P (f (normal xs)))
+    → P (judged (itemsOf w) o f)
+judged-by w o f P wrong deep long more = go (itemsOf w) refl
+  where
+    go : (i : Option Items) → itemsOf w ≡ i → P (judged i o f)
+    go none e = unfold judged in wrong (no-items w e)
+    go (some xs) e =
+        let t = table-of-items w xs e in
+        unfold judged in
+        byLt P depthLimit (depth xs) (deep xs t)
+        (λ d. byLt P byteLimit (length (normal xs)) (long xs t d)
+        (λ l. more xs t (record { shallow = d; short = l; room = omega arith })))
+
+-- the same of writing: 12; 13; 14; 15; 0
+pub write-by : (w o : List ℕ) (P : Writing → Type 0) → (NoTable w → P (unwritten 12 0 o))
+    → ((xs : Items) → IsTable w xs → depthLimit < depth xs → P (unwritten 13 0 o))
+    → ((xs : Items) → IsTable w xs → depth xs ≤ depthLimit → byteLimit < length (normal xs) → P (unwritten 14 0 o))
+    → ((xs : Items) → IsTable w xs → Writable xs (length (normal xs)) → length o < length (normal xs)
+    → P (unwritten 15 (length (normal xs)) o))
+    → ((xs : Items) → IsTable w xs → Writable xs (length o)
+    → P (record { number = 0; length = length (normal xs); output = over (normal xs) o }))
+    → P (writing w o)
+unfolding writing put
+write-by w o P wrong deep long room all =
+    judged-by w o (put o) P wrong deep long
+    (λ xs t f. byLt P (length o) (length (normal xs)) (room xs t f)
+    (λ r. all xs t (record { shallow = f .shallow; short = f .short; room = r })))
+
 -- written, with everything determined; or refused with one of the numbers 12 to 15, and the output as lent
 pub data Wrote (w o : List ℕ) : Writing → Type 0 where
-  written : (xs : Items) → itemsOf w ≡ some xs → Writable xs (length o)
+  written : (xs : Items) → IsTable w xs → Writable xs (length o)
       → Wrote w o (record { number = 0; length = length (normal xs); output = over (normal xs) o })
   no-writing : (n l : ℕ) → 12 ≤ n → n ≤ 15 → Wrote w o (record { number = n; length = l; output = o })
 
-judged-wrote : (w o : List ℕ) (i : Option Items) → itemsOf w ≡ i → Wrote w o (judged i o (put o))
-unfolding judged put
-judged-wrote w o none e = no-writing 12 0 (omega arith) (omega arith)
-judged-wrote w o (some xs) e =
-    byLt (Wrote w o) depthLimit (depth xs) (λ h. no-writing 13 0 (omega arith) (omega arith))
-    (λ d. byLt (Wrote w o) byteLimit (length (normal xs)) (λ h. no-writing 14 0 (omega arith) (omega arith))
-    (λ b. byLt (Wrote w o) (length o) (length (normal xs)) (λ h. no-writing 15 (length (normal xs)) (omega arith) (omega arith))
-    (λ r. written xs e (record { shallow = d; short = b; room = r }))))
-
 pub write-cases : (w o : List ℕ) → Wrote w o (writing w o)
-unfolding writing
-write-cases w o = judged-wrote w o (itemsOf w) refl
+write-cases w o =
+    write-by w o (Wrote w o) (λ n. no-writing 12 0 (omega arith) (omega arith)) (λ xs t d. no-writing 13 0 (omega arith) (omega arith))
+    (λ xs t d l. no-writing 14 0 (omega arith) (omega arith))
+    (λ xs t f r. no-writing 15 (length (normal xs)) (omega arith) (omega arith))
+    written
 
 pub write-writable : (w o : List ℕ) (xs : Items) → itemsOf w ≡ some xs → Writable xs (length o)
     → writing w o ≡ record { number = 0; length = length (normal xs); output = over (normal xs) o }
@@ -76,8 +153,3 @@ write-writable w o xs e f =
     ap (λ i. judged i o (put o)) e
     ∙ ifLt-no depthLimit (depth xs) _ _ (f .shallow) ∙ ifLt-no byteLimit (length (normal xs)) _ _ (f .short)
     ∙ ifLt-no (length o) (length (normal xs)) _ _ (f .room)
-
--- ---- what is lent
-pub over-past : (l t : List ℕ) → drop (length l) (over l t) ≡ drop (length l) t
-unfolding over
-over-past l t = drop-at l (drop (length l) t) (length l) refl

@@ -4,26 +4,25 @@ use Prim.Native.Nat.{ℕ, _≤_}
 use mathlib.Core.Path.{_≡_, refl, sym, ap, _∙_, subst}
 use mathlib.Core.Logic.{_≢_, _⊎_, inl, inr, _↔_}
 use mathlib.Core.Bool.{true}
-use mathlib.Core.Option.{Option, none, some}
+use mathlib.Core.Option.{some}
 use mathlib.Core.List.{List, [], _++_}
 use native.Mathlib.Omega.{arith}
-use lib.ListN.{length, drop, take-append-drop}
+use lib.ListN.{length, drop}
 use lib.Seq.{take-at}
 use Rattle.format.specs.Numbers.{Bytes}
-use Rattle.format.specs.Refusals.{byteLimit, depthLimit}
 use Rattle.format.specs.Items.{Items}
 use Rattle.format.specs.Messages.{withoutRepeats}
 use Rattle.format.specs.Tables.{tableOf, wordsNeeded, lawful, itemsOf}
-use Rattle.format.specs.Normal.{normal, depth}
-use Rattle.format.specs.Answers.{Reading, over, reading, Writing, judged, told, writing, normalLength, Normalising, readAnd, thenWritten, normalising}
-use Rattle.format.proofs.Choices.{ifEq-yes, byLt, byEq, both-true, le-true}
+use Rattle.format.specs.Normal.{normal}
+use Rattle.format.specs.Answers.{Reading, over, reading, Writing, told, writing, normalLength, Normalising, readAnd, thenWritten, normalising}
+use Rattle.format.proofs.Choices.{ifEq-yes, byEq, both-true, le-true}
 use Rattle.format.proofs.ReadProper.{read-proper, read-depth}
-use Rattle.format.proofs.RoundTrip.{round-trip, normal-inj}
+use Rattle.format.proofs.RoundTrip.{round-trip, normal-inj, normal-plain}
 use Rattle.format.proofs.NormalBytes.{normal-bytes}
 use Rattle.format.proofs.Minimal.{minimal}
-use Rattle.format.proofs.TableLaws.{table-back, table-only}
+use Rattle.format.proofs.TableLaws.{table-back}
 use Rattle.message.specs.Words.{Says, Accepted, NoneDue, IsTable, Writable, Ready, given}
-use Rattle.message.proofs.Cases.{Read, accepted, no-reading, Wrote, written, no-writing, read-cases, read-due, write-cases, write-writable}
+use Rattle.message.proofs.Cases.{Read, accepted, no-reading, Wrote, written, no-writing, read-cases, read-due, items-of-table, judged-by, write-cases, write-writable}
 
 -- ---- Demand 1: "Give it anything: it answers and ends." Every answer is one of the numbers listed, and a refusal leaves what
 -- is lent untouched.
@@ -60,17 +59,9 @@ refused-writing w o = go (writing w o) (write-cases w o)
 -- not due.
 pub normal-length-number : (w : List ℕ) → (normalLength w .number ≡ 0) ⊎ ((12 ≤ normalLength w .number) × (normalLength w .number ≤ 14))
 unfolding normalLength
-normal-length-number w = go (itemsOf w)
-  where
-    P : Writing → Type 0
-    P r = (r .number ≡ 0) ⊎ ((12 ≤ r .number) × (r .number ≤ 14))
-
-    go : (i : Option Items) → P (judged i [] told)
-    go none = unfold judged in inr (omega arith, omega arith)
-    go (some xs) =
-        unfold judged told in
-        byLt P depthLimit (depth xs) (λ h. inr (omega arith, omega arith))
-        (λ d. byLt P byteLimit (length (normal xs)) (λ h. inr (omega arith, omega arith)) (λ b. inl refl))
+normal-length-number w =
+    judged-by w [] told (λ (r : Writing). (r .number ≡ 0) ⊎ ((12 ≤ r .number) × (r .number ≤ 14))) (λ n. inr (omega arith, omega arith))
+    (λ xs t d. inr (omega arith, omega arith)) (λ xs t d l. inr (omega arith, omega arith)) (λ xs t f. inl (unfold told in refl))
 
 -- "if writing refuses, the table holds the reading and the output is untouched"
 pub normalised-table : (m t o : List ℕ) → normalising m t o .table ≡ reading m t .table
@@ -108,21 +99,12 @@ pub accepted-table : (m t : List ℕ) (xs : Items) → NoneDue m xs (length t)
 unfolding over
 accepted-table m t xs d = read-due m t xs d
 
--- a table is judged to be the table of some items exactly when it is
-items-of-table : (w : List ℕ) (xs : Items) → IsTable w xs → itemsOf w ≡ some xs
-items-of-table w xs i =
-    subst (λ l. itemsOf l ≡ some xs) (ap (λ l. l ++ drop (length (tableOf xs)) w) (sym (i .exact)) ∙ take-append-drop (length (tableOf xs)) w)
-    (table-back xs (drop (length (tableOf xs)) w) (i .lawful))
-
-table-of-items : (w : List ℕ) (xs : Items) → itemsOf w ≡ some xs → IsTable w xs
-table-of-items w xs e = let h = table-only w xs e in record { lawful = h .0; exact = h .2 }
-
 pub written-exactly : (w o : List ℕ) → (writing w o .number ≡ 0) ↔ ((xs : Items) × IsTable w xs × Writable xs (length o))
 written-exactly w o =
     (λ e. go (writing w o) (write-cases w o) e, λ d. ap (λ r. r .number) (write-writable w o (d .0) (items-of-table w (d .0) (d .1)) (d .2)))
   where
     go : (r : Writing) → Wrote w o r → r .number ≡ 0 → (xs : Items) × IsTable w xs × Writable xs (length o)
-    go r (written xs i f) e = (xs, table-of-items w xs i, f)
+    go r (written xs i f) e = (xs, i, f)
     go r (no-writing n l a b) e = absurd (omega arith)
 
 -- the whole answer and the whole output, the bytes past the normal form unchanged
@@ -136,7 +118,7 @@ written-normal w o xs i f = write-writable w o xs (items-of-table w xs i) f
 -- that says those items is shorter."
 
 -- what reading lays out is a table of the message's items
-read-table : (m t : List ℕ) (xs : Items) → Bytes m → NoneDue m xs (length t) → itemsOf (over (tableOf xs) t) ≡ some xs
+pub read-table : (m t : List ℕ) (xs : Items) → Bytes m → NoneDue m xs (length t) → itemsOf (over (tableOf xs) t) ≡ some xs
 unfolding over lawful
 read-table m t xs b d =
     table-back xs (drop (length (tableOf xs)) t)
@@ -207,6 +189,10 @@ normal-accepted m t o u xs b r h =
 pub normal-unchanged : (m t o u p : List ℕ) (xs : Items) → Bytes m → Ready m xs t o → wordsNeeded xs ≤ length u → length (normal xs) ≤ length p
     → (normalising (normal xs) u p .number ≡ 0) × (given (normalising (normal xs) u p) ≡ normal xs)
 normal-unchanged m t o u p xs b r hu hp = normalised (normal xs) u p xs (normal-says m t o xs b r .0) (normal-ready m t o u p xs b r hu hp)
+
+-- the normal form has "no repeats": it is itself one of the messages that it is held against
+pub normal-without-repeats : (m t o : List ℕ) (xs : Items) → Bytes m → Ready m xs t o → withoutRepeats (normal xs) ≡ true
+normal-without-repeats m t o xs b r = normal-plain xs (read-proper m xs b (r .read .said)) (read-depth m xs (r .read .said)) (r .short)
 
 -- "no accepted message without repeats that says those items is shorter"
 pub normal-shortest : (n u : List ℕ) (xs : Items) → Bytes n → Accepted n u → Says n xs → withoutRepeats n ≡ true → length (normal xs) ≤ length n

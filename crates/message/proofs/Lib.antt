@@ -1,4 +1,7 @@
 pub mod Cases
 pub mod Demands
+pub mod ReadExactly
+pub mod WriteExactly
+pub mod NormaliseExactly
 pub mod ReadCases
 pub mod WriteCases

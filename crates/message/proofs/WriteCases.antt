@@ -2,15 +2,10 @@
 use Prim.Native.Nat.{ℕ}
 use mathlib.Core.Path.{_≡_, refl, sym, ap, _∙_}
 use mathlib.Core.Logic.{_≢_}
-use mathlib.Core.Option.{Option, none, some}
 use mathlib.Core.List.{List, []}
-use lib.ListN.{length}
-use Rattle.format.specs.Refusals.{byteLimit, depthLimit}
-use Rattle.format.specs.Items.{Items}
-use Rattle.format.specs.Tables.{itemsOf}
-use Rattle.format.specs.Normal.{normal, depth}
 use Rattle.format.specs.Answers as A
-use Rattle.format.proofs.Choices.{ifEq-yes, ifEq-no, byLt}
+use Rattle.format.proofs.Choices.{ifEq-yes, ifEq-no}
+use Rattle.message.proofs.Cases.{judged-by}
 
 -- an answer is told by its parts
 pub written-parts : (a : A.Writing) (n l : ℕ) (o : List ℕ) → n ≡ a .number → l ≡ a .length → o ≡ a .output → record { number = n; length = l; output = o } ≡ a
@@ -23,16 +18,8 @@ written-parts a n l o en el eo =
 -- the operation that tells a normal length is lent no output
 pub no-output : (w : List ℕ) → [] ≡ A.normalLength w .output
 unfolding A.normalLength
-no-output w = go (itemsOf w)
-  where
-    P : A.Writing → Type 0
-    P a = [] ≡ a .output
-
-    go : (i : Option Items) → P (A.judged i [] A.told)
-    go none = unfold A.judged in refl
-    go (some xs) =
-        unfold A.judged A.told in
-        byLt P depthLimit (depth xs) (λ h. refl) (λ d. byLt P byteLimit (length (normal xs)) (λ h. refl) (λ b. refl))
+no-output w =
+    judged-by w [] A.told (λ (a : A.Writing). [] ≡ a .output) (λ n. refl) (λ xs t d. refl) (λ xs t d l. refl) (λ xs t f. unfold A.told in refl)
 
 -- a refused reading ends normalising
 pub normalise-refused : (m t o : List ℕ) (r : A.Reading) → r ≡ A.reading m t → r .number ≢ 0 → A.onlyRead r o ≡ A.normalising m t o

@@ -1,9 +1,11 @@
--- The words of the demands, for the theorems in proofs/Demands.antt.
-use Prim.Native.Nat.{ℕ, _≤_}
+-- The words of the demands, for the theorems in proofs/Demands.antt and of when each number is given (proofs/ReadExactly.antt,
+-- WriteExactly.antt, NormaliseExactly.antt).
+use Prim.Native.Nat.{ℕ, _+_, _*_, _≤_, _<_}
 use mathlib.Core.Path.{_≡_}
+use mathlib.Core.Logic.{_⊎_}
 use mathlib.Core.Bool.{true}
 use mathlib.Core.List.{List}
-use lib.ListN.{length, take}
+use lib.ListN.{length, take, getD}
 use Rattle.format.specs.Refusals.{byteLimit, rowLimit, wordLimit, depthLimit}
 use Rattle.format.specs.Items.{Items}
 use Rattle.format.specs.Messages.{says, outcome}
@@ -27,11 +29,23 @@ pub record NoneDue (m : List ℕ) (xs : Items) (n : ℕ) : Type 0 where
   pub few-words : length (dataWords xs) ≤ wordLimit
   pub room : wordsNeeded xs ≤ n
 
+-- 10: "over 16,384 rows or 16,384 data words"
+abbrev pub OverLimits : Items → Type 0
+OverLimits xs = (rowLimit < rows xs) ⊎ (wordLimit < length (dataWords xs))
+
 -- "exactly the table of some list of items within the row and data limits, EDT rule included. Words past the data belong to the
 -- caller"
 pub record IsTable (w : List ℕ) (xs : Items) : Type 0 where
   pub lawful : lawful xs ≡ true
   pub exact : take (length (tableOf xs)) w ≡ tableOf xs
+
+-- 12: "table to write not well formed"
+abbrev pub NoTable : List ℕ → Type 0
+NoTable w = (xs : Items) → ¬ IsTable w xs
+
+-- the words that a table has by its header: "word 0 the number of rows R", "word 3 the number of data words"
+abbrev pub headed : List ℕ → ℕ
+headed w = 4 + 3 * getD w 0 0 + getD w 3 0
 
 -- None of the numbers 13, 14 and 15 is due for a table of these items, and an output of n bytes.
 pub record Writable (xs : Items) (n : ℕ) : Type 0 where

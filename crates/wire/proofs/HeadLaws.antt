@@ -11,7 +11,7 @@ use lib.Seq.{length-take-le, drop-drop, getD-take}
 use lib.IntN.{ℤ, pos, negsuc}
 use Rattle.format.specs.declared.Class.{Class}
 use Rattle.format.specs.declared.Class.the-variants as C
-use Rattle.format.specs.Numbers.{Bytes, val, signed, twos}
+use Rattle.format.specs.Numbers.{Bytes, val, twos}
 use Rattle.format.specs.Bits.{isOne, spread, bytesFor}
 use Rattle.format.specs.Refusals.{at}
 use Rattle.format.specs.Items.{Leaf, int, bits, char, bool, empty, xtra, one, leafKind}
@@ -32,7 +32,6 @@ use Rattle.wire.specs.declared.head.Head.the-variants.{Stop, Gap, Row, S
 use Rattle.wire.specs.Extents.{ExtentIs}
 use Rattle.wire.specs.Heads.{CountedIs, ContainedIs, HeadIs, IsRow, wrapOf, longBits, bitsFrom}
 use Rattle.wire.proofs.ShortBits.{stream, short-is}
-use Rattle.wire.proofs.Leadings.{signed-small}
 
 -- ---- one byte
 pub row-is : (l : Leaf) (k v : ℕ) → leafKind l ≡ k → leafA l ≡ 0 → ((d : ℕ) → leafB d l ≡ v) → leafWords l ≡ [] → IsRow l k v
@@ -152,11 +151,6 @@ sbitstr-short d b k n v w s hb ek h z en ev w0 w1 =
     )
 
 -- ---- a length or a count
--- a word from 2^63 up stands for a negative number
-signed-neg : (v : ℕ) → 2 ^ 63 ≤ v → (m : ℕ) × (signed 8 v ≡ negsuc m)
-unfolding signed
-signed-neg v h = (256 ^ 8 - 1 - v, ifLt-no (2 * v) (256 ^ 8) _ _ (let g : 256 ^ 8 ≤ 2 * v = omega arith in g))
-
 pub count-absent : (why h : ℕ) (s : List ℕ) → O.leading s ≡ O.absent → CountedIs why h s (Wrong why 0)
 unfolding O.counted
 count-absent why h s e = λ f. rw e refl
@@ -165,13 +159,13 @@ pub count-short : (why h p : ℕ) (s : List ℕ) → O.leading s ≡ O.short p �
 unfolding O.counted
 count-short why h p s e = λ f. rw e refl
 
-pub count-negative : (why h v u : ℕ) (s : List ℕ) → O.leading s ≡ O.found (signed 8 v) u → 2 ^ 63 ≤ v → CountedIs why h s (Wrong why 0)
+pub count-negative : (why h m u : ℕ) (s : List ℕ) → O.leading s ≡ O.found (negsuc m) u → CountedIs why h s (Wrong why 0)
 unfolding O.counted
-count-negative why h v u s e g = λ f. rw (e, signed-neg v g .1) refl
+count-negative why h m u s e = λ f. rw e refl
 
-pub count-right : (why h v u : ℕ) (s : List ℕ) → O.leading s ≡ O.found (signed 8 v) u → v < 2 ^ 63 → u ≤ length s → CountedIs why h s (Right v u)
+pub count-right : (why h n u : ℕ) (s : List ℕ) → O.leading s ≡ O.found (pos n) u → n < 2 ^ 63 → u ≤ length s → CountedIs why h s (Right n u)
 unfolding O.counted
-count-right why h v u s e g l = (λ f. rw (e, signed-small v g) refl, l, g)
+count-right why h n u s e g l = (λ f. rw e refl, l, g)
 
 -- ---- LBITSTR
 pub lbitstr-past : (d n : ℕ) (s : List ℕ) → n ≡ O.past d → ExtentIs s Past → HeadIs s (Stop n 0) (O.headBy C.Lbitstr d 0xc1 s)

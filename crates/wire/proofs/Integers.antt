@@ -1,77 +1,48 @@
--- Two's complement of k bytes, as a word: a negative number's high bytes are all ones. Assumes nothing.
-use Prim.Native.Nat.{ℕ, suc, _+_, _-_, _*_, _/_, _%_, _^_, _≤_, _<_}
+-- The whole number that k bytes stand for in two's complement, from the high bytes of a word. Assumes nothing.
+use Prim.Native.Nat.{ℕ, _-_, _*_, _/_, _%_, _^_, _≤_, _<_}
 use mathlib.Core.Path.{_≡_, refl, sym, ap, _∙_}
 use mathlib.Core.List.{List}
-use native.Mathlib.Nat.{mod-eq-of-lt}
 use native.Mathlib.Omega.{arith}
 use lib.ListN.{length, take}
 use lib.Seq.{length-take-le}
-use Rattle.format.specs.Numbers.{val, signed, twos}
+use lib.IntN.{ℤ, negsuc}
+use lib.Signed.{mag, shrZ, mag-shr}
+use mir.Syntax.{w64}
+use mir.Val.{ofZ, toZ}
+use Rattle.format.specs.Numbers.{val, signed}
 use Rattle.format.specs.Objects.{integer}
-use Rattle.format.proofs.Choices.{ifLt-yes, ifLt-no, each}
-use Rattle.format.proofs.Digits.{pow-le}
+use Rattle.format.proofs.Choices.{ifLt-yes, ifLt-no, split}
+use Rattle.format.proofs.SignedLaws.{handed}
+use Rattle.wire.proofs.WordLaws.{each-of-eight}
 
-word-pos : (k n h : ℕ) → k ≤ 8 → n < 256 ^ k → 2 * h ≡ 256 ^ k → n < h → twos 8 (signed k n) ≡ n
-unfolding twos signed
-word-pos k n h hk hn eh l =
-    let q : 256 ^ k ≤ 256 ^ 8 = pow-le {i = k} {j = 8} hk in
-    let g : 2 * n < 256 ^ k = omega arith in
-    let m : n < 256 ^ 8 = omega arith in
-    rw (ifLt-yes (2 * n) (256 ^ k)) (mod-eq-of-lt m)
-
-word-neg : (k n h : ℕ) → k ≤ 8 → n < 256 ^ k → 2 * h ≡ 256 ^ k → h ≤ n → twos 8 (signed k n) ≡ n + (2 ^ 63 - h) * 2
-unfolding twos signed
-word-neg k n h hk hn eh l =
-    let q : 256 ^ k ≤ 256 ^ 8 = pow-le {i = k} {j = 8} hk in
-    let g : 256 ^ k ≤ 2 * n = omega arith in
-    let m : 256 ^ k - 1 - n < 256 ^ 8 = omega arith in
-    let e : (256 ^ k - 1 - n) % 256 ^ 8 ≡ 256 ^ k - 1 - n = mod-eq-of-lt m in
-    rw (ifLt-no (2 * n) (256 ^ k), e) (omega arith)
-
-pub integer-take : (s : List ℕ) (k : ℕ) → k ≤ length s → integer (take k s) ≡ signed k (val (take k s))
+integer-take : (s : List ℕ) (k : ℕ) → k ≤ length s → integer (take k s) ≡ signed k (val (take k s))
 unfolding integer
 integer-take s k h = rw (length-take-le k s h) refl
 
-pub integer-pos : (s : List ℕ) (k n h : ℕ) → k ≤ 8 → k ≤ length s → n ≡ val (take k s) → n < 256 ^ k → 2 * h ≡ 256 ^ k → n < h
-    → n ≡ twos 8 (integer (take k s))
-integer-pos s k n h hk hl en hn eh l = sym (ap (twos 8) (integer-take s k hl ∙ ap (signed k) (sym en)) ∙ word-pos k n h hk hn eh l)
-
-pub integer-neg : (s : List ℕ) (k n h : ℕ) → k ≤ 8 → k ≤ length s → n ≡ val (take k s) → n < 256 ^ k → 2 * h ≡ 256 ^ k → h ≤ n
-    → n + (2 ^ 63 - h) * 2 ≡ twos 8 (integer (take k s))
-integer-neg s k n h hk hl en hn eh l = sym (ap (twos 8) (integer-take s k hl ∙ ap (signed k) (sym en)) ∙ word-neg k n h hk hn eh l)
-
--- the sum is a word
-pub neg-fits : (k n h : ℕ) → k ≤ 8 → n < 256 ^ k → 2 * h ≡ 256 ^ k → h ≤ n → n + (2 ^ 63 - h) * 2 < 2 ^ 64
-neg-fits k n h hk hn eh l = omega (arith, pow-le {i = k} {j = 8} hk)
-
--- the high bytes of a word: their number, and the sign that the word's highest bit tells
-pub record High (w k : ℕ) : Type 0 where
-  pub small : w / 2 ^ (64 - 8 * k) < 256 ^ k
-  pub twice : 2 * (256 ^ k / 2) ≡ 256 ^ k
-  pub plus : w < 2 ^ 63 → w / 2 ^ (64 - 8 * k) < 256 ^ k / 2
-  pub minus : 2 ^ 63 ≤ w → 256 ^ k / 2 ≤ w / 2 ^ (64 - 8 * k)
-  pub value : 2 ^ 64 - 1 - (2 ^ 64 - 1 - w) / 2 ^ (64 - 8 * k) ≡ w / 2 ^ (64 - 8 * k) + (2 ^ 63 - 256 ^ k / 2) * 2
+-- the high bytes of a word: the sign that its highest bit tells, and what a negative one is when the low bytes are shifted out
+record High (w k : ℕ) : Type 0 where
+  plus : w < 2 ^ 63 → 2 * (w / 2 ^ (64 - 8 * k)) < 256 ^ k
+  minus : 2 ^ 63 ≤ w → 256 ^ k ≤ 2 * (w / 2 ^ (64 - 8 * k))
+  value : (256 ^ 8 - 1 - w) / 2 ^ (64 - 8 * k) ≡ 256 ^ k - 1 - w / 2 ^ (64 - 8 * k)
 
 high : (w k : ℕ) → w < 2 ^ 64 → 0 < k → k ≤ 8 → High w k
 high w k hw p l =
-    let e : suc (k - 1) ≡ k = omega arith in
-    rw e at
-    (each (λ j. High w (suc j)) 8 (
-      record { small = omega arith; twice = refl; plus = λ g. omega arith; minus = λ g. omega arith; value = omega arith },
+    each-of-eight (High w) (
+      record { plus = λ g. omega arith; minus = λ g. omega arith; value = omega arith },
       (
-        record { small = omega arith; twice = refl; plus = λ g. omega arith; minus = λ g. omega arith; value = omega arith },
+        record { plus = λ g. omega arith; minus = λ g. omega arith; value = omega arith },
         (
-          record { small = omega arith; twice = refl; plus = λ g. omega arith; minus = λ g. omega arith; value = omega arith },
+          record { plus = λ g. omega arith; minus = λ g. omega arith; value = omega arith },
           (
-            record { small = omega arith; twice = refl; plus = λ g. omega arith; minus = λ g. omega arith; value = omega arith },
+            record { plus = λ g. omega arith; minus = λ g. omega arith; value = omega arith },
             (
-              record { small = omega arith; twice = refl; plus = λ g. omega arith; minus = λ g. omega arith; value = omega arith },
+              record { plus = λ g. omega arith; minus = λ g. omega arith; value = omega arith },
               (
-                record { small = omega arith; twice = refl; plus = λ g. omega arith; minus = λ g. omega arith; value = omega arith },
+                record { plus = λ g. omega arith; minus = λ g. omega arith; value = omega arith },
                 (
-                  record { small = omega arith; twice = refl; plus = λ g. omega arith; minus = λ g. omega arith; value = omega arith },
+                  record { plus = λ g. omega arith; minus = λ g. omega arith; value = omega arith },
                   (
-                    record { small = omega arith; twice = refl; plus = λ g. omega arith; minus = λ g. omega arith; value = omega arith },
+                    record { plus = λ g. omega arith; minus = λ g. omega arith; value = omega arith },
                     tt,
                   ),
                 ),
@@ -80,15 +51,34 @@ high w k hw p l =
           ),
         ),
       ),
-    ) (k - 1) (omega arith))
+    ) k p l
 
-pub high-pos : (w k : ℕ) → w < 2 ^ 64 → 0 < k → k ≤ 8 → w < 2 ^ 63 → w / 2 ^ (64 - 8 * k) ≡ twos 8 (signed k (w / 2 ^ (64 - 8 * k)))
-high-pos w k hw p l g =
+shr-signed : (w k : ℕ) → w < 2 ^ 64 → 0 < k → k ≤ 8 → shrZ (signed 8 w) (2 ^ (64 - 8 * k)) ≡ signed k (w / 2 ^ (64 - 8 * k))
+unfolding signed
+shr-signed w k hw p l =
     let q = high w k hw p l in
-    sym (word-pos k (w / 2 ^ (64 - 8 * k)) (256 ^ k / 2) l (q .small) (q .twice) (q .plus g))
+    split w (2 ^ 63)
+    (λ g.
+    let a : 2 * w < 256 ^ 8 = omega arith in
+    rw (ifLt-yes (2 * w) (256 ^ 8), ifLt-yes (2 * (w / 2 ^ (64 - 8 * k))) (256 ^ k) _ _ (q .plus g)) refl)
+    (λ g.
+    let a : 256 ^ 8 ≤ 2 * w = omega arith in
+    rw (ifLt-no (2 * w) (256 ^ 8), ifLt-no (2 * (w / 2 ^ (64 - 8 * k))) (256 ^ k) _ _ (q .minus g)) (ap negsuc (q .value)))
 
-pub high-neg : (w k : ℕ) → w < 2 ^ 64 → 0 < k → k ≤ 8 → 2 ^ 63 ≤ w
-    → 2 ^ 64 - 1 - (2 ^ 64 - 1 - w) / 2 ^ (64 - 8 * k) ≡ twos 8 (signed k (w / 2 ^ (64 - 8 * k)))
-high-neg w k hw p l g =
-    let q = high w k hw p l in
-    q .value ∙ sym (word-neg k (w / 2 ^ (64 - 8 * k)) (256 ^ k / 2) l (q .small) (q .twice) (q .minus g))
+-- the same as the code shifts a number that it was handed
+pub shifted : (w k : ℕ) (z : ℤ) → mag z < 2 ^ 63 → w < 2 ^ 64 → 0 < k → k ≤ 8 → z ≡ signed 8 w
+    → toZ w64 (ofZ w64 (shrZ (toZ w64 (ofZ w64 z)) (2 ^ (64 - 8 * k)))) ≡ signed k (w / 2 ^ (64 - 8 * k))
+shifted w k z f hw p l e =
+    let m = 2 ^ (64 - 8 * k) in
+    ap (λ y. toZ w64 (ofZ w64 (shrZ y m))) (handed z z f refl)
+    ∙ handed (signed k (w / m)) (shrZ z m) (omega (arith, mag-shr z m)) (ap (λ y. shrZ y m) e ∙ shr-signed w k hw p l)
+
+-- a number of k bytes in the high bytes of a word
+pub raised : (n k : ℕ) → n < 256 ^ k → 0 < k → k ≤ 8 → n * 2 ^ (64 - 8 * k) % 2 ^ 64 / 2 ^ (64 - 8 * k) ≡ n
+raised n k hn p l =
+    each-of-eight (λ j. n < 256 ^ j → n * 2 ^ (64 - 8 * j) % 2 ^ 64 / 2 ^ (64 - 8 * j) ≡ n)
+    (λ h. omega arith, (λ h. omega arith, (λ h. omega arith, (λ h. omega arith, (λ h. omega arith, (λ h. omega arith, (λ h. omega arith, (λ h. omega arith, tt)))))))) k p l hn
+
+-- what k bytes of this number stand for, as it is handed on
+pub integer-is : (s : List ℕ) (k n : ℕ) (z : ℤ) → mag z < 2 ^ 63 → k ≤ length s → n ≡ val (take k s) → z ≡ signed k n → toZ w64 (ofZ w64 z) ≡ integer (take k s)
+integer-is s k n z f h e ez = handed (integer (take k s)) z f (ez ∙ ap (signed k) e ∙ sym (integer-take s k h))

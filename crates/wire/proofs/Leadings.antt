@@ -1,22 +1,20 @@
 -- The INT at the front of contents, found as its meaning says. Assumes nothing.
-use Prim.Native.Nat.{ℕ, suc, _+_, _-_, _*_, _%_, _^_, _≤_, _<_}
+use Prim.Native.Nat.{ℕ, suc, _+_, _-_, _%_, _≤_, _<_}
 use mathlib.Core.Path.{_≡_, refl, sym, ap, _∙_, subst}
 use mathlib.Core.Logic.{_≢_}
 use mathlib.Core.List.{List, _∷_}
 use native.Mathlib.Numerals.{add-one}
 use native.Mathlib.Omega.{arith}
 use lib.ListN.{length, take, drop, getD, length-drop, drop-of-length-le}
-use lib.Seq.{drop-cons, length-take-le}
-use lib.IntN.{pos}
+use lib.Seq.{drop-cons}
+use lib.IntN.{ℤ, pos}
 use Rattle.format.specs.declared.Class.{Class}
 use Rattle.format.specs.declared.Class.the-variants as C
-use Rattle.format.specs.Numbers.{Bytes, val, signed, twos}
 use Rattle.format.specs.Classes.{classOf}
 use Rattle.format.specs.Objects as O
 use Rattle.format.proofs.Choices.{ifLt-yes, ifLt-no, split}
-use Rattle.format.proofs.Digits.{bytes-take, bytes-drop, val-lt, mag-signed, signed-twos, pow-le}
 use Rattle.format.proofs.Parts.{rest-part}
-use Rattle.format.proofs.TypeBytes.{InClass, in-class, following-range}
+use Rattle.format.proofs.TypeBytes.{InClass, in-class}
 use Rattle.wire.specs.declared.integer.Leading.{Leading}
 use Rattle.wire.specs.declared.integer.Leading.the-variants.{Short, Found}
 use Rattle.wire.specs.Heads.{LeadingIs, ahead, Unpadded, lintegerAt}
@@ -57,44 +55,30 @@ at-class s i b c h eb ec u =
     u .skipped ∙ ap (λ l. ahead i (O.leading l)) (drop-cons s i 0 h ∙ ap (λ x. x ∷ drop (suc i) s) (sym eb))
     ∙ ap (λ k. ahead i (O.leadingBy k b (drop (suc i) s) (O.leading (drop (suc i) s)))) (sym ec)
 
--- a small number is itself as a word
-pub signed-small : (n : ℕ) → n < 2 ^ 63 → signed 8 n ≡ pos n
-unfolding signed
-signed-small n h = let l : 2 * n < 256 ^ 8 = omega arith in ifLt-yes (2 * n) (256 ^ 8) _ _ l
-
-pub leading-small : (s : List ℕ) (i b : ℕ) → i < length s → b ≡ getD s i 0 → C.Sinteger ≡ classOf b → Unpadded s i
-    → LeadingIs s (Found (b % 64) (i + 1))
+pub leading-small : (s : List ℕ) (i b : ℕ) (z : ℤ) → z ≡ pos (b % 64) → i < length s → b ≡ getD s i 0 → C.Sinteger ≡ classOf b → Unpadded s i
+    → LeadingIs s (Found z (i + 1))
 unfolding O.leadingBy ahead
-leading-small s i b h eb ec u =
+leading-small s i b z ez h eb ec u =
     let r : InClass b C.Sinteger = subst (InClass b) (sym ec) (in-class b) in
     let e : b % 64 ≡ b - 128 = omega (arith, r .0, r .1) in
-    let l : b % 64 < 2 ^ 63 = omega arith in
-    (at-class s i b C.Sinteger h eb ec u ∙ ap (λ z. O.found z (i + 1)) (ap pos (sym e) ∙ sym (signed-small (b % 64) l)), omega arith)
-
--- the value of up to eight bytes comes back from its word
-pub integer-back : (p : List ℕ) → Bytes p → length p ≤ 8 → signed 8 (twos 8 (O.integer p)) ≡ O.integer p
-unfolding O.integer
-integer-back p h l =
-    signed-twos 8 (signed (length p) (val p)) (omega arith)
-    (let a = mag-signed (length p) (val p) (val-lt p h) in omega (arith, pow-le {i = length p} {j = 8} l))
+    (at-class s i b C.Sinteger h eb ec u ∙ ap (λ y. O.found y (i + 1)) (ap pos (sym e) ∙ sym ez), omega arith)
 
 pub linteger-short : (s : List ℕ) (i b k : ℕ) → k ≡ O.following b → length s - (i + 1) < k → Short i ≡ lintegerAt s i b
 unfolding lintegerAt
 linteger-short s i b k ek l = sym (ifLt-yes (length s - (i + 1)) (O.following b) _ _ (rw ek at l))
 
-pub linteger-found : (s : List ℕ) (i b k v : ℕ) → k ≡ O.following b → k ≤ length s - (i + 1)
-    → v ≡ twos 8 (O.integer (take k (take (length s - (i + 1)) (drop (i + 1) s)))) → Found v (i + 1 + k) ≡ lintegerAt s i b
+pub linteger-found : (s : List ℕ) (i b k : ℕ) (z : ℤ) → k ≡ O.following b → k ≤ length s - (i + 1)
+    → z ≡ O.integer (take k (take (length s - (i + 1)) (drop (i + 1) s))) → Found z (i + 1 + k) ≡ lintegerAt s i b
 unfolding lintegerAt
-linteger-found s i b k v ek g ev =
-    rw (ev, rest-part s (i + 1), ek) (sym (ifLt-no (length s - (i + 1)) (O.following b) _ _ (rw ek at g)))
+linteger-found s i b k z ek g ez =
+    rw (ez, rest-part s (i + 1), ek) (sym (ifLt-no (length s - (i + 1)) (O.following b) _ _ (rw ek at g)))
 
-pub leading-long : (s : List ℕ) (i b : ℕ) → Bytes s → i < length s → b ≡ getD s i 0 → C.Linteger ≡ classOf b → Unpadded s i
+pub leading-long : (s : List ℕ) (i b : ℕ) → i < length s → b ≡ getD s i 0 → C.Linteger ≡ classOf b → Unpadded s i
     → LeadingIs s (lintegerAt s i b)
 unfolding O.leadingBy ahead lintegerAt
-leading-long s i b hb h eb ec u =
+leading-long s i b h eb ec u =
     let e = at-class s i b C.Linteger h eb ec u in
     let n : length (drop (suc i) s) ≡ length s - (i + 1) = length-drop (suc i) s ∙ omega arith in
-    let f = following-range b in
     split (length s - (i + 1)) (O.following b)
     (λ l.
     let m : length (drop (suc i) s) < O.following b = omega arith in
@@ -102,11 +86,8 @@ leading-long s i b hb h eb ec u =
     (rw (ifLt-yes (length (drop (suc i) s)) (O.following b)) at e ∙ ap O.short (let z : i + 0 ≡ i = omega arith in z), h))
     (λ g.
     let m : O.following b ≤ length (drop (suc i) s) = omega arith in
-    let p : length (take (O.following b) (drop (suc i) s)) ≡ O.following b = length-take-le (O.following b) (drop (suc i) s) m in
-    let q : signed 8 (twos 8 (O.integer (take (O.following b) (drop (suc i) s)))) ≡ O.integer (take (O.following b) (drop (suc i) s))
-    = integer-back (take (O.following b) (drop (suc i) s)) (bytes-take (O.following b) (drop (suc i) s) (bytes-drop (suc i) s hb)) (omega arith) in
     rw (ifLt-no (length s - (i + 1)) (O.following b), add-one i)
-    ((rw (ifLt-no (length (drop (suc i) s)) (O.following b)) at e) ∙ (rw q (ap (O.found (O.integer (take (O.following b) (drop (suc i) s)))) (omega arith))), omega arith))
+    ((rw (ifLt-no (length (drop (suc i) s)) (O.following b)) at e) ∙ ap (O.found (O.integer (take (O.following b) (drop (suc i) s)))) (omega arith), omega arith))
 
 -- a byte that begins no integer and is no padding
 pub record Other (b : ℕ) : Type 0 where

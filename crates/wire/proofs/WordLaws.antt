@@ -1,13 +1,13 @@
 -- Eight bytes as one number: its high bytes, and when they are all ones. Assumes nothing.
-use Prim.Native.Nat.{ℕ, suc, _+_, _-_, _*_, _/_, _%_, _≤_, _<_, _^_}
-use mathlib.Core.Path.{_≡_, refl, sym, _∙_, ap}
+use Prim.Native.Nat.{ℕ, suc, _+_, _-_, _*_, _/_, _≤_, _<_, _^_}
+use mathlib.Core.Path.{_≡_, refl, _∙_, ap}
 use mathlib.Core.List.{List}
 use native.Mathlib.Omega.{arith}
 use native.Mathlib.Nat.{add-zero}
 use lib.ListN.{length, take, getD}
 use lib.Seq.{length-take-le}
 use Rattle.format.specs.Numbers.{val}
-use Rattle.format.proofs.Choices.{each, true-le}
+use Rattle.format.proofs.Choices.{Each, each}
 use Rattle.format.proofs.Digits.{val-take-suc, val-lt, bytes-take, bytes-of}
 use Rattle.wire.specs.Ranges.{Between}
 use Rattle.wire.specs.WordsAt.{wordAt}
@@ -17,13 +17,15 @@ none : (s : List ℕ) → val (take 0 s) ≡ 0
 unfolding val
 none s = refl
 
--- the number of the first k bytes is that of the first eight without the low ones
-Right : List ℕ → ℕ → Type 0
-Right s j = wordAt 0 s / 2 ^ (64 - 8 * suc j) ≡ val (take (suc j) s)
+-- a fact of 1 to 8, one by one
+pub each-of-eight : (P : ℕ → Type 0) → Each (λ j. P (suc j)) 8 → (k : ℕ) → 0 < k → k ≤ 8 → P k
+each-of-eight P a k p l =
+    let e : suc (k - 1) ≡ k = omega arith in
+    rw e at (each (λ j. P (suc j)) 8 a (k - 1) (omega arith))
 
-all-right : (s : List ℕ) → ((i : ℕ) → getD s i 0 < 256) → 8 ≤ length s → (j : ℕ) → suc j ≤ 8 → Right s j
-unfolding Right
-all-right s small h j l =
+-- the number of the first k bytes is that of the first eight without the low ones
+pub high-bytes : (s : List ℕ) (k : ℕ) → ((i : ℕ) → getD s i 0 < 256) → 8 ≤ length s → 0 < k → k ≤ 8 → wordAt 0 s / 2 ^ (64 - 8 * k) ≡ val (take k s)
+high-bytes s k small h p l =
     let a0 = none s in
     let a1 = val-take-suc s 0 (omega arith) in
     let a2 = val-take-suc s 1 (omega arith) in
@@ -41,26 +43,8 @@ all-right s small h j l =
     let b5 = small 5 in
     let b6 = small 6 in
     let b7 = small 7 in
-    each (Right s) 8
-    (omega arith, (omega arith, (omega arith, (omega arith, (omega arith, (omega arith, (omega arith, (omega arith, tt)))))))) j l
-
-pub high-bytes : (s : List ℕ) (k : ℕ) → ((i : ℕ) → getD s i 0 < 256) → 8 ≤ length s → 0 < k → k ≤ 8 → wordAt 0 s / 2 ^ (64 - 8 * k) ≡ val (take k s)
-unfolding Right
-high-bytes s k small h p l =
-    let e : suc (k - 1) ≡ k = omega arith in
-    rw e at (all-right s small h (k - 1) (omega arith))
-
--- half of 256 ^ k
-Half : ℕ → Type 0
-Half j = (2 * (1 * 2 ^ (8 * suc j - 1) % 2 ^ 64) ≡ 256 ^ suc j) × (1 * 2 ^ (8 * suc j - 1) % 2 ^ 64 ≤ 2 ^ 63)
-
-pub half-power : (k : ℕ) → 0 < k → k ≤ 8 → (2 * (1 * 2 ^ (8 * k - 1) % 2 ^ 64) ≡ 256 ^ k) × (1 * 2 ^ (8 * k - 1) % 2 ^ 64 ≤ 2 ^ 63)
-unfolding Half
-half-power k p l =
-    let e : suc (k - 1) ≡ k = omega arith in
-    rw e at
-    (each Half 8
-    ((refl, true-le _ _ refl), ((refl, true-le _ _ refl), ((refl, true-le _ _ refl), ((refl, true-le _ _ refl), ((refl, true-le _ _ refl), ((refl, true-le _ _ refl), ((refl, true-le _ _ refl), ((refl, true-le _ _ refl), tt)))))))) (k - 1) (omega arith))
+    each-of-eight (λ j. wordAt 0 s / 2 ^ (64 - 8 * j) ≡ val (take j s))
+    (omega arith, (omega arith, (omega arith, (omega arith, (omega arith, (omega arith, (omega arith, (omega arith, tt)))))))) k p l
 
 -- eight bytes that are all ones
 pub all-ones : (s : List ℕ) (e : ℕ) → ((i : ℕ) → getD s i 0 < 256) → wordAt e s ≡ 0xffffffffffffffff → Between 0xff 0xff e (e + 8) s

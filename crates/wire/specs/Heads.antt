@@ -10,7 +10,6 @@ use Rattle.format.specs.Bits.{spread, adjusted, bytesFor}
 use Rattle.format.specs.Refusals.{at}
 use Rattle.format.specs.Items.{Leaf, bits, struc, end, group, one, leafKind}
 use Rattle.format.specs.Tables.{leafA, leafB, leafWords}
-use Rattle.format.specs.Numbers.{signed, twos}
 use Rattle.format.specs.Objects as O
 use Rattle.wire.specs.declared.integer.Leading.{Leading}
 use Rattle.wire.specs.declared.integer.Leading.the-variants as L
@@ -26,7 +25,7 @@ use Rattle.wire.specs.declared.head.Head.the-variants.{Stop, Gap, Row, S
 abbrev pub LeadingIs : List ℕ → Leading → Type 0
 LeadingIs s L.Absent = O.leading s ≡ O.absent
 LeadingIs s (L.Short p) = (O.leading s ≡ O.short p) × (p < length s)
-LeadingIs s (L.Found v u) = (O.leading s ≡ O.found (signed 8 v) u) × (u ≤ length s)
+LeadingIs s (L.Found z u) = (O.leading s ≡ O.found z u) × (u ≤ length s)
 
 -- what is found i bytes further on
 unfoldable pub ahead : ℕ → O.Leading → O.Leading
@@ -42,9 +41,9 @@ pub record Unpadded (s : List ℕ) (i : ℕ) : Type 0 where
 
 -- an LINTEGER whose type-byte b stands at i
 unfoldable pub lintegerAt : List ℕ → ℕ → ℕ → Leading
-unfolding ifLt O.following O.integer twos
+unfolding ifLt O.following O.integer
 lintegerAt s i b =
-    ifLt (length s - (i + 1)) (O.following b) (L.Short i) (L.Found (twos 8 (O.integer (take (O.following b) (drop (i + 1) s)))) (i + 1 + O.following b))
+    ifLt (length s - (i + 1)) (O.following b) (L.Short i) (L.Found (O.integer (take (O.following b) (drop (i + 1) s))) (i + 1 + O.following b))
 
 -- a container's contents, whatever it makes of them
 abbrev pub ContainedIs : ℕ → List ℕ → Contained → Type 0

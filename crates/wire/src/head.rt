@@ -16,6 +16,7 @@ use super::size::Extent;
 use super::size::extent_of;
 use format::Class;
 use format::class_of;
+use format::signed::word_of;
 
 // How a container closes over its contents.
 pub enum Wrap {
@@ -68,7 +69,7 @@ fn linteger(depth: usize, b: u8, s: &[u8]) -> Head
     if s.len() < k {
         return Head::Stop(past_of(depth), 0);
     }
-    Head::Row(1, integer_of(s, k), k)
+    Head::Row(1, word_of(integer_of(s, k)), k)
 }
 
 // The bits behind the marker of a number of n bits and a marker above them, left-adjusted in a word.
@@ -107,11 +108,11 @@ fn count_of(why: usize, h: usize, c: &[u8]) -> Counted
     match l {
         Leading::Absent => Counted::Wrong(why, 0),
         Leading::Short(p) => Counted::Wrong(3, 1 + h + p),
-        Leading::Found(v, u) => {
-            if v >= 0x8000000000000000 {
+        Leading::Found(z, u) => {
+            if z < 0 {
                 return Counted::Wrong(why, 0);
             }
-            Counted::Right(v as usize, u)
+            Counted::Right(z as usize, u)
         }
     }
 }

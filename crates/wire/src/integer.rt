@@ -2,16 +2,17 @@
 ghost use mathlib.Core.Path.{_≡_};
 ghost use Prim.Native.Nat.{_+_, _-_, _*_, _/_, _^_, _≤_, _<_};
 ghost use lib.ListN.{length, take, drop};
-ghost use Rattle.format.specs.Numbers.{val, signed, twos};
+ghost use Rattle.format.specs.Numbers.{val, signed};
 ghost use Rattle.format.specs.Objects.{following, integer};
 ghost use Rattle.wire.specs.Heads.{LeadingIs, Unpadded, lintegerAt};
 ghost use Rattle.wire.specs.WordsAt.{wordAt};
+use format::signed::value_of;
 
-// The INT at the front of contents. Short: cut short at that place. Found: its value modulo 2^64, and the bytes up to its end.
+// The INT at the front of contents. Short: cut short at that place. Found: its value, and the bytes up to its end.
 pub enum Leading {
     Absent,
     Short(usize),
-    Found(u64, usize),
+    Found(i64, usize),
 }
 
 fn wide(x: u8) -> u64
@@ -63,43 +64,26 @@ pub fn number(s: &[u8], k: usize) -> u64
     number_by_bytes(s, k)
 }
 
-// Half of 256 to the power of k: the least number of k bytes that stands for a negative one.
-fn half(k: usize) -> u64
+// The whole number that the high k bytes of a word stand for in two's complement.
+fn signed_high(w: u64, k: usize) -> i64
     requires { ⌜ (0 < k) × (k ≤ 8) ⌝ }
-    ensures { λ r. ⌜ (2 * r ≡ 256 ^ k) × (r ≤ 2 ^ 63) ⌝ }
+    ensures { λ r. ⌜ r ≡ signed k (w / 2 ^ (64 - 8 * k)) ⌝ }
 {
-    1u64 << (8 * k - 1)
+    value_of(w) >> (64 - 8 * k)
 }
 
-// The whole number that the high k bytes of a word stand for in two's complement, modulo 2^64.
-fn signed_high(w: u64, k: usize) -> u64
-    requires { ⌜ (0 < k) × (k ≤ 8) ⌝ }
-    ensures { λ r. ⌜ r ≡ twos 8 (signed k (w / 2 ^ (64 - 8 * k))) ⌝ }
-{
-    let low = 64 - 8 * k;
-    if w < 0x8000000000000000 {
-        return w >> low;
-    }
-    0xffffffffffffffff - ((0xffffffffffffffff - w) >> low)
-}
-
-// The same of the first k bytes, a byte at a time.
-fn integer_by_bytes(s: &[u8], k: usize) -> u64
+// The whole number that the first k bytes stand for, a byte at a time.
+fn integer_by_bytes(s: &[u8], k: usize) -> i64
     requires { ⌜ (0 < k) × (k ≤ length (now s)) × (k ≤ 8) ⌝ }
-    ensures { λ r. ⌜ r ≡ twos 8 (integer (take k (now (s .entry)))) ⌝ }
+    ensures { λ r. ⌜ r ≡ integer (take k (now (s .entry))) ⌝ }
 {
-    let n = number_by_bytes(s, k);
-    let h = half(k);
-    if n < h {
-        return n;
-    }
-    n + (0x8000000000000000 - h) * 2
+    signed_high(number_by_bytes(s, k) << (64 - 8 * k), k)
 }
 
 // The same, from one word where eight bytes are there.
-pub fn integer_of(s: &[u8], k: usize) -> u64
+pub fn integer_of(s: &[u8], k: usize) -> i64
     requires { ⌜ (0 < k) × (k ≤ length (now s)) × (k ≤ 8) ⌝ }
-    ensures { λ r. ⌜ r ≡ twos 8 (integer (take k (now (s .entry)))) ⌝ }
+    ensures { λ r. ⌜ r ≡ integer (take k (now (s .entry))) ⌝ }
 {
     if s.len() >= 8 {
         return signed_high(word_at(s, 0), k);
@@ -147,7 +131,7 @@ pub fn leading_of(s: &[u8]) -> Leading
         return Leading::Absent;
     }
     if b < 0xc0 {
-        return Leading::Found((b % 64) as u64, i + 1);
+        return Leading::Found((b % 64) as i64, i + 1);
     }
     if b < 0xe0 {
         return Leading::Absent;

@@ -1,6 +1,6 @@
 -- The laws, each file standing on those before it: numbers and lists, rows, judging, leaves, runs, and the answers.
 pub mod NumberLaws
-pub mod SignedLaws
+pub mod Magnitudes
 pub mod Over
 pub mod RowLaws
 pub mod BitRows

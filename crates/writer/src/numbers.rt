@@ -7,6 +7,7 @@ ghost use lib.Signed.{mag};
 ghost use Rattle.format.specs.Numbers.{be, signed, width};
 ghost use Rattle.format.specs.Normal.{normalInt, normalSize};
 ghost use Rattle.format.specs.Answers.{over};
+use format::signed::value_of;
 
 // The fewest bytes, one at least, that hold a number.
 pub fn width(n: u64) -> usize
@@ -29,16 +30,6 @@ pub fn size_length(n: usize) -> usize
         return 1;
     }
     1 + width(n as u64)
-}
-
-// The signed number whose eight bytes, in two's complement, are `v`.
-pub fn value_of(v: u64) -> i64
-    ensures { λ r. ⌜ r ≡ signed 8 v ⌝ }
-{
-    if v < 0x8000_0000_0000_0000 {
-        return v as i64;
-    }
-    -1 - ((0xffff_ffff_ffff_ffff - v) as i64)
 }
 
 // Twice the magnitude of a signed number, which is -1 - z where it is negative: k bytes hold it if this is below 256 ^ k.

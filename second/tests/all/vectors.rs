@@ -10,36 +10,56 @@ use std::path::Path;
 const AMPLE_WORDS: usize = 65_540;
 const AMPLE_BYTES: usize = 65_536;
 
+/// All the vectors, and how many of them have each key.
+const ALL: usize = 655;
+const KEYS: [(&str, usize); 11] = [
+    ("message", 533),
+    ("lent", 13),
+    ("read", 533),
+    ("items", 185),
+    ("table", 202),
+    ("room", 19),
+    ("normalise", 13),
+    ("normal", 234),
+    ("list", 25),
+    ("write", 122),
+    ("bytes", 23),
+];
+
 #[test]
 fn every_vector_holds() {
-    let folder = Path::new(env!("CARGO_MANIFEST_DIR")).join("../tests/vectors");
+    let vectors = vectors();
+    assert_eq!(vectors.len(), ALL, "vectors");
+    for (key, due) in KEYS {
+        let has_key = |vector: &&(String, Block)| vector.1.value(key).is_some();
+        assert_eq!(vectors.iter().filter(has_key).count(), due, "with {key}");
+    }
     let mut numbers = BTreeSet::new();
-    let mut count = 0;
-    for entry in std::fs::read_dir(folder).expect("the folder of vectors") {
-        let path = entry.expect("a file").path();
-        if path.extension().is_some_and(|extension| extension == "txt") {
-            count += run_file(&path, &mut numbers);
+    for (name, block) in &vectors {
+        match block.value("write") {
+            Some(_) => run_writing(name, block, &mut numbers),
+            None => run_reading(name, block, &mut numbers),
         }
     }
-    println!("{count} vectors");
-    assert!(count > 500);
     assert!(
         numbers.iter().copied().eq(0..=15),
         "numbers met: {numbers:?}"
     );
 }
 
-fn run_file(path: &Path, numbers: &mut BTreeSet<u64>) -> usize {
+/// Every block of every file, and where it stands.
+fn vectors() -> Vec<(String, Block)> {
+    let folder = Path::new(env!("CARGO_MANIFEST_DIR")).join("../tests/vectors");
+    let files = std::fs::read_dir(folder).expect("the folder of vectors");
+    let paths = files.map(|file| file.expect("a file").path());
+    let texts = paths.filter(|path| path.extension().is_some_and(|kind| kind == "txt"));
+    texts.flat_map(|path| of_file(&path)).collect()
+}
+
+fn of_file(path: &Path) -> Vec<(String, Block)> {
     let text = std::fs::read_to_string(path).expect("a vector file");
-    let blocks = blocks(&text);
-    for block in &blocks {
-        let name = format!("{}:{}", path.display(), block.line);
-        match block.value("write") {
-            Some(_) => run_writing(&name, block, numbers),
-            None => run_reading(&name, block, numbers),
-        }
-    }
-    blocks.len()
+    let named = |block: Block| (format!("{}:{}", path.display(), block.line), block);
+    blocks(&text).into_iter().map(named).collect()
 }
 
 fn lent_of(block: &Block, key: &str, ample: usize) -> usize {

@@ -1,7 +1,8 @@
 -- `class_of` is the paper's class: each arm of its `match` has one code, and a code tells its class. Assumes nothing.
 use borrow.Author.Needs.{needs}
 use Rattle.format.specs.declared.Class.the-variants as C
-use Rattle.format.specs.Classes.{classOf, codeOf}
+use Rattle.format.specs.Classes.{classOf}
+use Rattle.format.specs.Codes.{codeOf}
 use Rattle.format.proofs.ClassCodes.{by-code, by-rest}
 use Rattle.format.proofs.class_of.Statement.{statement}
 use Rattle.format.proofs.class_of.Tie as tie

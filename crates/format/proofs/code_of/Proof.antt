@@ -6,7 +6,8 @@ use mathlib.Core.List.{List, [], _∷_}
 use borrow.Author.Needs.{needs}
 use lib.Dec.{eqb}
 use lib.ListN.{getD}
-use Rattle.format.specs.Classes.{classOf, codeOf}
+use Rattle.format.specs.Classes.{classOf}
+use Rattle.format.specs.Codes.{codeOf}
 use Rattle.format.proofs.Choices.{true-eq}
 use Rattle.format.proofs.ClassCodes.{every, at-each}
 use Rattle.format.proofs.code_of.Statement.{statement}

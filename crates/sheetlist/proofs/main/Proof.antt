@@ -1,54 +1,43 @@
 -- `main` meets its contract. Assumes nothing.
 use Prim.Native.Nat.{ℕ, _≤_}
-use mathlib.Core.Path.{_≡_, sym, ap}
-use mathlib.Core.List.{List}
-use native.Mathlib.Omega.{arith}
-use native.Mathlib.Nat.{le-refl}
-use lib.ListN.{length, drop, replicate, length-append, length-replicate}
+use mathlib.Core.Path.{_≡_, sym, subst}
 use lib.Seq.{length-take-le}
-use Rattle.format.specs.Answers.{over}
-use Rattle.listing.specs.Lines.{listing}
 use borrow.Author.Needs.{needs}
+use Rattle.sheetlist.specs.Inputs.{Held}
+use Rattle.sheetlist.specs.declared.input.Input.{Input}
+use Rattle.sheetlist.specs.declared.input.Input.the-variants.{Whole}
 use Rattle.sheetlist.proofs.main.Statement.{statement}
 use Rattle.sheetlist.proofs.main.Tie as tie
 
--- zeros are as long as they are many
-zeros-long : (n : ℕ) → n ≤ length (replicate {A = ℕ} n 0)
-zeros-long n = rw (length-replicate {A = ℕ} n 0) (le-refl n)
+-- bytes that were read lie within those lent
+whole-within : (n k : ℕ) (r : Input) → r ≡ Whole k → Held n r → k ≤ n
+whole-within n k r e h = subst (λ x. Held n x) e h
 
--- a text that was laid over a buffer lies within it
-text-within : (l t u : List ℕ) (r : ℕ) → r ≡ length l → u ≡ over l t → r ≤ length u
-unfolding over
-text-within l t u r e o = omega (arith, e, ap length o, length-append l (drop (length l) t))
+slice-aggregate-read-input : tie.Need-slice-aggregate-read-input
+slice-aggregate-read-input c = search needs
 
-slice-aggregate-read-full : tie.Need-slice-aggregate-read-full
-slice-aggregate-read-full c = search needs
+read-input-requires : tie.Need-read-input-requires
+read-input-requires c κs = search needs
 
-read-full-requires : tie.Need-read-full-requires
-read-full-requires c κs = search needs
+enum-known-got : tie.Need-enum-known-got
+enum-known-got c = search needs
 
-array-share-prefix-input : tie.Need-array-share-prefix-input
-array-share-prefix-input c = search needs
+array-share-prefix-sheet : tie.Need-array-share-prefix-sheet
+array-share-prefix-sheet c = whole-within _ _ (c .before .before .before .before .read-input .result) (c .before .got .given .1) (c .before .before .before .before .read-input .ensures)
 
-slice-aggregate-list : tie.Need-slice-aggregate-list
-slice-aggregate-list c = search needs
+slice-aggregate-list-sheet : tie.Need-slice-aggregate-list-sheet
+slice-aggregate-list-sheet c =
+    sym (length-take-le _ _
+    (whole-within _ _ (c .before .before .before .before .before .read-input .result) (c .before .before .got .given .1) (c .before .before .before .before .before .read-input .ensures)))
 
-slice-aggregate-list-2 : tie.Need-slice-aggregate-list-2
-slice-aggregate-list-2 c = search needs
+list-sheet-requires : tie.Need-list-sheet-requires
+list-sheet-requires c κs = search needs
 
-slice-aggregate-list-3 : tie.Need-slice-aggregate-list-3
-slice-aggregate-list-3 c = search needs
-
-list-requires : tie.Need-list-requires
-list-requires c κs = (length-replicate {A = ℕ} 8000 0, zeros-long 524288)
-
-array-share-prefix-text : tie.Need-array-share-prefix-text
-array-share-prefix-text c = text-within (listing _) _ (c .before .before .list .last .1 .1 .0) (c .before .before .list .result) (c .before .before .list .ensures .0) (c .before .before .list .ensures .1 .0)
+enum-told : tie.Need-enum-told
+enum-told c = search needs
 
 slice-aggregate-write-all : tie.Need-slice-aggregate-write-all
-slice-aggregate-write-all c =
-    sym (length-take-le (c .before .before .before .list .result) (c .before .before .before .list .last .1 .1 .0)
-    (text-within (listing _) _ (c .before .before .before .list .last .1 .1 .0) (c .before .before .before .list .result) (c .before .before .before .list .ensures .0) (c .before .before .before .list .ensures .1 .0)))
+slice-aggregate-write-all c = search needs
 
 write-all-requires : tie.Need-write-all-requires
 write-all-requires c κs = search needs
@@ -56,18 +45,21 @@ write-all-requires c κs = search needs
 returns : tie.Need-returns
 returns c = search needs
 
+returns-2 : tie.Need-returns-2
+returns-2 c = search needs
+
 pub main-spec : {M : Type 1} → statement M
 main-spec =
     tie.close
     (tie.spec
-    slice-aggregate-read-full
-    read-full-requires
-    array-share-prefix-input
-    slice-aggregate-list
-    slice-aggregate-list-2
-    slice-aggregate-list-3
-    list-requires
-    array-share-prefix-text
+    slice-aggregate-read-input
+    read-input-requires
+    enum-known-got
+    array-share-prefix-sheet
+    slice-aggregate-list-sheet
+    list-sheet-requires
+    enum-told
     slice-aggregate-write-all
     write-all-requires
-    returns)
+    returns
+    returns-2)

@@ -7,9 +7,11 @@ mod checker;
 mod damage;
 mod forms_by_chance;
 mod hostile;
+mod hostile_messages;
 mod items_by_chance;
 mod lent;
 mod objects;
+mod pages;
 mod repeat_objects;
 mod rooms;
 mod small_stack;
@@ -46,5 +48,6 @@ mod writing_small_tables;
 mod normalising;
 mod normalising_pairs;
 
+mod format_page;
 mod refusals_page;
 mod stretches;

@@ -1,46 +1,41 @@
-//! The list by the shears, `docs/REFUSALS.md`, held against the library: every
-//! number once and in order, every answer as the page has it, and nothing
-//! smaller than what it calls the smallest.
+//! The engineer's page, `docs/REFUSALS.md`, held against the library: every
+//! number once and in order, every answer as the page has it, nothing smaller
+//! than what it calls the smallest, and the numbers of each operation.
 
 use crate::checker::Checker;
 use crate::every::every_run;
 use crate::objects;
+use crate::pages::{self, in_backticks, message};
 use crate::rooms::{AMPLE_BYTES, AMPLE_WORDS};
 use crate::small_stack::{in_both_stacks, report};
 use crate::tables::{nest, table};
 use crate::told;
 use compare::library::{self, Empty};
-use std::path::Path;
+use std::collections::{BTreeMap, BTreeSet};
 
-/// A row of the page: the number, the cell that says what is smallest, and the
-/// answer, which the numbers of writing do not have.
+/// The numbers of the four operations. Others have tests of their own.
+const LAST: u64 = 15;
+
+/// A row of the page: the number, which is 0 for EMPTY, its name, and the cells
+/// that say what is wrong, what is smallest, and the answer.
 struct Line {
+    name: String,
     number: u64,
+    wrong: String,
     smallest: String,
-    answer: Option<String>,
+    answer: String,
 }
 
-/// The rows of both tables of the page, in its order.
+/// The rows of the page's tables, each with the heads of its table.
+fn tables() -> Vec<(Vec<String>, Vec<String>)> {
+    pages::tables("REFUSALS.md")
+}
+
+/// The rows of the numbers of the four operations, in the page's order.
 fn page() -> Vec<Line> {
-    let path = Path::new(env!("CARGO_MANIFEST_DIR")).join("../../docs/REFUSALS.md");
-    let text = std::fs::read_to_string(path).expect("the page");
-    let rows = text.lines().filter_map(cells);
-    let mut heads: Vec<String> = Vec::new();
-    let mut lines = Vec::new();
-    for row in rows {
-        if row[0] == "No." {
-            heads = row;
-        } else if !row[0].starts_with("---") {
-            lines.push(line(&heads, &row));
-        }
-    }
-    lines
-}
-
-/// The cells of a line of the page, if it belongs to a table.
-fn cells(line: &str) -> Option<Vec<String>> {
-    let row = line.trim().strip_prefix('|')?.strip_suffix('|')?;
-    Some(row.split('|').map(|cell| cell.trim().into()).collect())
+    let rows = tables().into_iter().filter(|(heads, _)| heads[0] == "No.");
+    let lines = rows.map(|(heads, row)| line(&heads, &row));
+    lines.filter(|line| line.number <= LAST).collect()
 }
 
 /// A row under the heads of its table.
@@ -48,24 +43,19 @@ fn line(heads: &[String], row: &[String]) -> Line {
     assert_eq!(row.len(), heads.len(), "cells of {row:?}");
     let cell = |head: &str| {
         let at = heads.iter().position(|cell| cell.starts_with(head));
-        at.map(|at| row[at].clone())
+        row[at.expect("a column")].clone()
+    };
+    let number = match row[0].as_str() {
+        "EMPTY" => 0,
+        digits => digits.parse().expect("a number"),
     };
     Line {
-        number: row[0].parse().expect("a number"),
-        smallest: cell("Smallest").expect("a smallest"),
-        answer: cell("Answer").map(|answer| in_backticks(&answer).expect("an answer").into()),
+        name: row[0].clone(),
+        number,
+        wrong: cell("What is wrong"),
+        smallest: cell("Smallest"),
+        answer: in_backticks(&cell("Answer")).expect("an answer").into(),
     }
-}
-
-fn in_backticks(cell: &str) -> Option<&str> {
-    cell.strip_prefix('`')?.strip_suffix('`')
-}
-
-/// The message in a cell, if its bytes are there in backticks.
-fn message(cell: &str) -> Option<Vec<u8>> {
-    let bytes = in_backticks(cell)?.split(' ');
-    let byte = |digits| u8::from_str_radix(digits, 16).expect("a byte");
-    Some(bytes.map(byte).collect())
 }
 
 /// What a cell in words stands for.
@@ -81,26 +71,27 @@ fn by_hand(number: u64) -> Option<(&'static str, Case)> {
     let reading = |message| Case::Reading(message, AMPLE_WORDS, 0);
     let writing = |table| Case::Writing(table, AMPLE_BYTES, 0);
     Some(match number {
+        0 => ("no bytes", reading(vec![])),
         1 => ("65,537 bytes of padding", reading(vec![0xFF; 65_537])),
         5 => (
-            "sixteen boxes around one more",
+            "sixteen STRUCs around one more",
             reading(objects::nest(16, 0xC2, &[0xC2])),
         ),
         11 => (
-            "nothing, with a table of three words",
+            "no bytes, and a table of three words",
             Case::Reading(vec![], 3, 4),
         ),
-        12 => ("no words at all", writing(vec![])),
+        12 => ("no words", writing(vec![])),
         13 => (
-            "seventeen boxes, one inside the other",
+            "seventeen STRUCs, one inside the other",
             writing(table(&nest(17, 0, &[]), 1, &[])),
         ),
         14 => (
-            "a row of bits that takes more than 65,536 bytes",
-            writing(table(&[[2, 8 * 65_537, 0]], 1, &[0; 8_193])),
+            "a bit string of 524,225 bits",
+            writing(table(&[[2, 524_225, 0]], 1, &[0; 8_192])),
         ),
         15 => (
-            "one number, and no room",
+            "one INT, and an output of no bytes",
             Case::Writing(table(&[[1, 0, 0]], 1, &[]), 0, 1),
         ),
         _ => return None,
@@ -114,33 +105,36 @@ fn case(line: &Line) -> Case {
         return Case::Reading(message, AMPLE_WORDS, 0);
     }
     let (words, case) = by_hand(line.number).expect("a number with words");
-    assert_eq!(line.smallest, words, "the words of {}", line.number);
+    assert_eq!(line.smallest, words, "the words of {}", line.name);
     case
 }
 
 #[test]
 fn every_number_once_and_in_order() {
-    let numbers: Vec<u64> = page().iter().map(|line| line.number).collect();
-    let all: Vec<u64> = (1..=15).collect();
-    assert_eq!(numbers, all, "the numbers of the page");
+    let names: Vec<String> = page().into_iter().map(|line| line.name).collect();
+    let numbers = (0..=LAST).map(|number| number.to_string());
+    let all: Vec<String> = ["EMPTY".into()].into_iter().chain(numbers).collect();
+    assert_eq!(names, all, "the numbers of the page");
 }
 
-/// Reading gets 1 to 11 and answers as the page says.
+/// Reading answers as the page says. With 0 its words are not on the page.
 fn reading_as_told(checker: &mut Checker, line: &Line, message: &[u8], lent: usize, words: u64) {
     let answer = checker.reading(message, lent);
-    let told = Some(format!("{} at {}", answer.number, answer.place));
-    let same = answer.number == line.number && told == line.answer && answer.words == words;
+    let told = format!("{} at {}", answer.number, answer.place);
+    let needed = answer.number == 0 || answer.words == words;
+    let same = answer.number == line.number && told == line.answer && needed;
     checker.must(same, || {
-        format!("{}, not {answer:?}: {}", line.number, told::bytes(message))
+        format!("{}, not {answer:?}: {}", line.name, told::bytes(message))
     });
 }
 
-/// Writing gets 12 to 15, which have no place, and the normal length the same
-/// but for 15.
+/// Writing answers as the page says, without a place, and the normal length the
+/// same but for 15.
 fn writing_as_told(checker: &mut Checker, line: &Line, table: &[u64], room: usize, length: u64) {
     let answer = checker.writing(table, room);
-    let same = answer.number == line.number && answer.length == length && line.answer.is_none();
-    checker.must(same, || format!("{}, not {answer:?}", line.number));
+    let told = answer.number.to_string();
+    let same = answer.number == line.number && told == line.answer && answer.length == length;
+    checker.must(same, || format!("{}, not {answer:?}", line.name));
     let due = if line.number == 15 { 0 } else { line.number };
     let answer = checker.normal_length(table);
     let same = answer.number == due && answer.length == length;
@@ -193,8 +187,8 @@ fn no_shorter_message_gets_them() {
     }
 }
 
-/// One byte, one box or one word less than the page has in words, or more room,
-/// is accepted.
+/// One byte, one STRUC or one bit less than the page has in words, or one word
+/// more to lend, is accepted.
 #[test]
 fn one_less_is_accepted() {
     let mut checker = Checker::new();
@@ -214,4 +208,111 @@ fn one_less_is_accepted() {
         ];
         checker.must(accepted == [0; 6], || format!("{accepted:?}"));
     });
+}
+
+/// An EMPTY is one item, and no fault.
+#[test]
+fn an_empty_is_an_item() {
+    let line = page().into_iter().find(|line| line.name == "EMPTY");
+    let message = message(&line.expect("EMPTY").smallest).expect("bytes");
+    let mut checker = Checker::new();
+    in_both_stacks(&mut checker, |checker| {
+        let answer = checker.reading(&message, 7);
+        let same = answer.number == 0 && checker.table() == table(&[[5, 0, 0]], 1, &[]);
+        checker.must(same, || format!("{answer:?}"));
+    });
+}
+
+/// The numbers of a cell such as `0, 12 to 15`.
+fn spans(cell: &str) -> BTreeSet<u64> {
+    let number = |digits: &str| digits.parse::<u64>().expect("a number");
+    let span = |part: &str| match part.split_once(" to ") {
+        Some((first, last)) => number(first)..=number(last),
+        None => number(part)..=number(part),
+    };
+    cell.split(", ").flat_map(span).collect()
+}
+
+/// Numbers by the operation that gets them.
+type Numbers = BTreeMap<String, BTreeSet<u64>>;
+
+/// The page's table of operations, up to the last number.
+fn operations() -> Numbers {
+    let rows = tables().into_iter();
+    let rows = rows.filter(|(heads, _)| heads[0] == "Operation");
+    let numbers = |cell: &str| spans(cell).range(..=LAST).copied().collect();
+    rows.map(|(_, row)| (row[0].clone(), numbers(&row[1])))
+        .collect()
+}
+
+/// The number in a listing.
+fn listed(message: &[u8]) -> u64 {
+    let text = second::listing(message);
+    let refused = text.strip_prefix("refused ");
+    refused.map_or(0, |rest| {
+        let number = rest.split(' ').next().expect("a word");
+        number.parse().expect("a number")
+    })
+}
+
+/// Adds what a message gets from each operation that takes one.
+fn message_gets(checker: &mut Checker, got: &mut Numbers, message: &[u8], lent: usize) {
+    let mut get = |name: &str, number| got.entry(name.into()).or_default().insert(number);
+    get("reading", checker.reading(message, lent).number);
+    for room in [AMPLE_BYTES, 0] {
+        let answer = checker.normalising(message, lent, room);
+        get("normalising", answer.number);
+    }
+    get("sheetlist", listed(message));
+}
+
+/// Adds what a table gets from each operation that takes one.
+fn table_gets(checker: &mut Checker, got: &mut Numbers, table: &[u64], room: usize) {
+    let mut get = |name: &str, number| got.entry(name.into()).or_default().insert(number);
+    for room in [AMPLE_BYTES, room] {
+        get("writing", checker.writing(table, room).number);
+    }
+    get("normal length", checker.normal_length(table).number);
+}
+
+/// The message that a row names besides the smallest, in backticks.
+fn named(line: &Line) -> Option<Vec<u8>> {
+    let (_, rest) = line.wrong.split_once("such as ")?;
+    message(rest.split_inclusive(';').next()?.trim_end_matches(';'))
+}
+
+/// The four operations and the listing get, for what is on the page, exactly
+/// the numbers that it has for them. The listing is the second program's;
+/// `tests/listings.sh` holds sheetlist against it. 2,666 rows are a listing's
+/// too many.
+#[test]
+fn each_operation_gets_its_numbers() {
+    let mut checker = Checker::new();
+    let mut got = Numbers::new();
+    for line in page() {
+        match case(&line) {
+            Case::Reading(message, lent, _) => message_gets(&mut checker, &mut got, &message, lent),
+            Case::Writing(table, room, _) => table_gets(&mut checker, &mut got, &table, room),
+        }
+        if let Some(message) = named(&line) {
+            message_gets(&mut checker, &mut got, &message, AMPLE_WORDS);
+        }
+    }
+    message_gets(&mut checker, &mut got, &[0x81; 2_666], AMPLE_WORDS);
+    checker.must_agree();
+    let mut told = operations();
+    told.retain(|operation, _| got.contains_key(operation));
+    assert_eq!(got, told, "the numbers of each operation");
+}
+
+/// The limits of sheetlist that the rows of 1 and 11 tell.
+#[test]
+fn a_listing_has_limits_of_its_own() {
+    let numbers = [
+        listed(&[0xFF; 32_768]),
+        listed(&[0xFF; 32_769]),
+        listed(&[0x81; 2_665]),
+        listed(&[0x81; 2_666]),
+    ];
+    assert_eq!(numbers, [0, 1, 0, 11]);
 }

@@ -17,8 +17,8 @@ impl Vector {
     }
 }
 
-/// The vectors that have a key, which are more than so many.
-pub fn with_key(key: &str, more_than: usize) -> Vec<Vector> {
+/// The vectors that have a key, which are exactly so many.
+pub fn with_key(key: &str, due: usize) -> Vec<Vector> {
     let folder = Path::new(env!("CARGO_MANIFEST_DIR")).join("../vectors");
     let files = std::fs::read_dir(folder).expect("the folder of vectors");
     let paths = files.map(|file| file.expect("a file").path());
@@ -27,11 +27,7 @@ pub fn with_key(key: &str, more_than: usize) -> Vec<Vector> {
     let chosen: Vec<_> = all
         .filter(|vector| vector.block.value(key).is_some())
         .collect();
-    assert!(
-        chosen.len() > more_than,
-        "{} vectors with {key}",
-        chosen.len()
-    );
+    assert_eq!(chosen.len(), due, "vectors with {key}");
     chosen
 }
 

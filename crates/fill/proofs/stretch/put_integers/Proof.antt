@@ -1,5 +1,6 @@
 -- One integer more, or all that have its type-byte. Assumes nothing.
 use lib.ListN.{length-take, length-drop}
+use Rattle.format.proofs.SignedLaws.{handed-word}
 use Rattle.fill.proofs.Stretches.{stretched-none, one-integer}
 use borrow.Author.Needs.{needs}
 use native.Mathlib.Omega.{arith}
@@ -39,6 +40,9 @@ part-integer-of-end c = search needs
 integer-of-requires : tie.Need-integer-of-requires
 integer-of-requires c κs = (omega arith, simp (length-take, length-drop) (omega arith), omega arith)
 
+word-of-requires : tie.Need-word-of-requires
+word-of-requires c κs = search needs
+
 put-at-requires : tie.Need-put-at-requires
 put-at-requires c κs = search needs
 
@@ -49,7 +53,10 @@ same-length-2 : tie.Need-same-length-2
 same-length-2 c = search needs
 
 returns-3 : tie.Need-returns-3
-returns-3 c = one-integer _ _ _ _ _ (c .before .before .before .before .before .before .before .before .before .before .before .pre .0) (c .before .before .before .before .before .before .before .before .before .before .before .pre .1) _ _ _ (c .before .before .before .before .before .before .before .before .before .before .before .pre .3, c .before .before .before .before .before .before .before .before .before .before .before .pre .4, c .before .before .before .before .before .before .before .before .following-of .ensures .0) (c .before .before .before .before .before .before .before .before .before .before .before .pre .2) (omega arith) (c .before .before .before .integer-of .ensures) (c .before .before .put-at .ensures)
+returns-3 c =
+    let p = c .before .before .before .before .before .before .before .before .before .before .before .before .pre in
+    let z = c .before .before .before .before .integer-of in
+    one-integer _ _ _ _ _ (p .0) (p .1) _ _ _ (p .3, p .4, c .before .before .before .before .before .before .before .before .before .following-of .ensures .0) (p .2) (omega arith) (handed-word _ (z .result) _ (z .ok) (z .ensures) (c .before .before .before .word-of .ensures)) (c .before .before .put-at .ensures)
 
 pub put-integers-spec : {M : Type 1} → statement M
 put-integers-spec =
@@ -66,6 +73,7 @@ put-integers-spec =
     part-integer-of-start
     part-integer-of-end
     integer-of-requires
+    word-of-requires
     put-at-requires
     add-t9
     same-length-2

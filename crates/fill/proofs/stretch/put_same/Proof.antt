@@ -1,6 +1,7 @@
 -- The loop's invariant: the rows of the integers so far stand behind what was there. Assumes nothing.
 use Prim.Native.Nat.{_-_}
 use lib.ListN.{length-take, length-drop}
+use Rattle.format.proofs.SignedLaws.{handed-word}
 use Rattle.format.proofs.TypeBytes.{following-range}
 use Rattle.fill.specs.Stretch.{Stretched}
 use Rattle.fill.proofs.Stretches.{stretched-none, stretched-long}
@@ -62,6 +63,9 @@ integer-of-requires c κs =
     let f = following-range (c .before .before .before .before .before .before .before .before .before .args .b) in
     (omega arith, simp (length-take, length-drop) (omega arith), omega arith)
 
+word-of-requires : tie.Need-word-of-requires Inv-loop μ-loop
+word-of-requires c κs = search needs
+
 put-at-requires : tie.Need-put-at-requires Inv-loop μ-loop
 put-at-requires c κs = search needs
 
@@ -75,7 +79,9 @@ loop-less : tie.Need-loop-less Inv-loop μ-loop
 loop-less c = search needs
 
 loop-again : tie.Need-loop-again Inv-loop μ-loop
-loop-again c = stretched-long _ _ _ _ _ _ _ (c .before .before .before .before .before .before .before .before .before .before .loop .inv) (omega arith) (omega arith) _ _ _ (c .before .before .before .before .before .before .before .before .before .before .before .before .before .pre .2) (omega arith) (omega arith) (c .before .before .before .integer-of .ensures) _ (c .before .before .put-at .ensures)
+loop-again c =
+    let z = c .before .before .before .before .integer-of in
+    stretched-long _ _ _ _ _ _ _ (c .before .before .before .before .before .before .before .before .before .before .before .loop .inv) (omega arith) (omega arith) _ _ _ (c .before .before .before .before .before .before .before .before .before .before .before .before .before .before .pre .2) (omega arith) (omega arith) (handed-word _ (z .result) _ (z .ok) (z .ensures) (c .before .before .before .word-of .ensures)) _ (c .before .before .put-at .ensures)
 
 same-length-3 : tie.Need-same-length-3 Inv-loop μ-loop
 same-length-3 c = search needs
@@ -104,6 +110,7 @@ put-same-spec =
     part-integer-of-start
     part-integer-of-end
     integer-of-requires
+    word-of-requires
     put-at-requires
     add-upto
     add-rows

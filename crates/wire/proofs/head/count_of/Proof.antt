@@ -1,6 +1,11 @@
 -- `head::count_of` meets its contract. Assumes nothing.
 use native.Mathlib.Omega.{arith}
-use mathlib.Core.Path.{subst}
+use mathlib.Core.Path.{ap, _∙_, subst}
+use lib.Signed.{mag}
+use mir.Syntax.{w64}
+use mir.Val.{SFits}
+use Rattle.format.specs.Objects.{found}
+use Rattle.format.proofs.SignedLaws.{found-negative, found-natural, kept, cast-mag}
 use Rattle.wire.specs.Heads.{LeadingIs}
 use Rattle.wire.proofs.HeadLaws.{count-absent, count-short, count-negative, count-right}
 use borrow.Author.Needs.{needs}
@@ -27,10 +32,19 @@ add-t10 c =
 enum-known-l-2 : tie.Need-enum-known-l-2
 enum-known-l-2 c = search needs
 
+cast-t12 : tie.Need-cast-t12
+cast-t12 c =
+    let l = c .before .before .l2 .given in
+    let f : SFits w64 (l .0 .0) = record { sfits = c .before .known-told2 .given .0 .1 } in
+    cast-mag _ _ (kept (l .0 .0) f (c .if1 .left)) (f .sfits)
+
 returns : tie.Need-returns
 returns c =
-    let r = subst (LeadingIs (c .before .before .before .before .before .before .args .c .now)) (c .before .before .l2 .given .1) (c .before .before .before .before .leading-of .ensures) in
-    count-negative (c .before .before .before .before .before .before .args .why) (c .before .before .before .before .before .before .args .h) (c .before .before .l2 .given .0 .0) (c .before .before .l2 .given .0 .1 .0) (c .before .before .before .before .before .before .args .c .now) (r .0) (omega arith)
+    let a = c .before .before .before .before .before .before .args in
+    let l = c .before .before .l2 .given in
+    let r = subst (LeadingIs (a .c .now)) (l .1) (c .before .before .before .before .leading-of .ensures) in
+    let f : SFits w64 (l .0 .0) = record { sfits = c .before .known-told2 .given .0 .1 } in
+    count-negative (a .why) (a .h) (mag (l .0 .0)) (l .0 .1 .0) (a .c .now) (r .0 ∙ ap (λ z. found z (l .0 .1 .0)) (found-negative (l .0 .0) f (c .if1 .taken)))
 
 returns-2 : tie.Need-returns-2
 returns-2 c =
@@ -44,8 +58,12 @@ returns-3 c =
 
 returns-4 : tie.Need-returns-4
 returns-4 c =
-    let r = subst (LeadingIs (c .before .before .before .before .before .before .args .c .now)) (c .before .before .l2 .given .1) (c .before .before .before .before .leading-of .ensures) in
-    count-right (c .before .before .before .before .before .before .args .why) (c .before .before .before .before .before .before .args .h) (c .before .before .l2 .given .0 .0) (c .before .before .l2 .given .0 .1 .0) (c .before .before .before .before .before .before .args .c .now) (r .0) (omega arith) (r .1)
+    let a = c .before .before .before .before .before .before .args in
+    let l = c .before .before .l2 .given in
+    let r = subst (LeadingIs (a .c .now)) (l .1) (c .before .before .before .before .leading-of .ensures) in
+    let f : SFits w64 (l .0 .0) = record { sfits = c .before .known-told2 .given .0 .1 } in
+    let n = found-natural (l .0 .0) f (c .if1 .left) in
+    count-right (a .why) (a .h) _ (l .0 .1 .0) (a .c .now) (r .0 ∙ ap (λ z. found z (l .0 .1 .0)) (n .0)) (n .1) (r .1)
 
 pub count-of-spec : {M : Type 1} → statement M
 count-of-spec =
@@ -58,6 +76,7 @@ count-of-spec =
     add-t10
     enum-known-l-2
     returns
+    cast-t12
     returns-2
     returns-3
     returns-4)

@@ -1,5 +1,6 @@
 -- `head::linteger` meets its contract. Assumes nothing.
 use native.Mathlib.Omega.{arith}
+use Rattle.format.proofs.SignedLaws.{handed-word}
 use Rattle.wire.proofs.HeadLaws.{linteger-stop, linteger-row}
 use borrow.Author.Needs.{needs}
 use Rattle.wire.proofs.head.linteger.Statement.{statement}
@@ -17,10 +18,16 @@ returns c = linteger-stop (c .before .before .before .before .args .depth) (c .b
 integer-of-requires : tie.Need-integer-of-requires
 integer-of-requires c κs = search needs
 
+word-of-requires : tie.Need-word-of-requires
+word-of-requires c κs = search needs
+
 returns-2 : tie.Need-returns-2
-returns-2 c = linteger-row (c .before .before .before .before .args .depth) (c .before .before .before .before .args .b) (c .before .before .following-of .result) (c .integer-of .result) (c .before .before .before .before .args .s .now) (c .before .before .following-of .ensures .0) (omega arith) (c .integer-of .ensures)
+returns-2 c =
+    let a = c .before .before .before .before .before .args in
+    let i = c .before .integer-of in
+    linteger-row (a .depth) (a .b) (c .before .before .before .following-of .result) (c .word-of .result) (a .s .now) (c .before .before .before .following-of .ensures .0) (omega arith) (handed-word _ (i .result) _ (i .ok) (i .ensures) (c .word-of .ensures))
 
 pub linteger-spec : {M : Type 1} → statement M
 linteger-spec =
     tie.close
-    (tie.spec following-of-requires past-of-requires returns integer-of-requires returns-2)
+    (tie.spec following-of-requires past-of-requires returns integer-of-requires word-of-requires returns-2)

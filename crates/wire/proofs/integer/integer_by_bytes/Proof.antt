@@ -1,6 +1,7 @@
 -- `integer::integer_by_bytes` meets its contract. Assumes nothing.
+use mathlib.Core.Path.{_∙_}
 use native.Mathlib.Omega.{arith}
-use Rattle.wire.proofs.Integers.{integer-pos, integer-neg, neg-fits}
+use Rattle.wire.proofs.Integers.{raised, integer-is}
 use borrow.Author.Needs.{needs}
 use Rattle.wire.proofs.integer.integer_by_bytes.Statement.{statement}
 use Rattle.wire.proofs.integer.integer_by_bytes.Tie as tie
@@ -8,25 +9,32 @@ use Rattle.wire.proofs.integer.integer_by_bytes.Tie as tie
 number-by-bytes-requires : tie.Need-number-by-bytes-requires
 number-by-bytes-requires c κs = search needs
 
-half-requires : tie.Need-half-requires
-half-requires c κs = search needs
+mul-signed-high : tie.Need-mul-signed-high
+mul-signed-high c = search needs
+
+sub-signed-high : tie.Need-sub-signed-high
+sub-signed-high c = search needs
+
+shl-signed-high : tie.Need-shl-signed-high
+shl-signed-high c = search needs
+
+signed-high-requires : tie.Need-signed-high-requires
+signed-high-requires c κs = search needs
 
 returns : tie.Need-returns
-returns c = integer-pos (c .before .before .before .before .args .s .now) (c .before .before .before .before .args .k) (c .before .before .number-by-bytes .result) (c .before .half .result) (omega arith) (omega arith) (c .before .before .number-by-bytes .ensures .0) (c .before .before .number-by-bytes .ensures .1) (c .before .half .ensures .0) (c .if1 .taken)
-
-sub-result : tie.Need-sub-result
-sub-result c = search needs
-
-mul-result : tie.Need-mul-result
-mul-result c = omega (arith, c .before .half .ensures .1)
-
-add-result : tie.Need-add-result
-add-result c = record { fits = neg-fits (c .before .before .before .before .args .k) (c .before .before .number-by-bytes .result) (c .before .half .result) (omega arith) (c .before .before .number-by-bytes .ensures .1) (c .before .half .ensures .0) (omega arith) }
-
-returns-2 : tie.Need-returns-2
-returns-2 c = integer-neg (c .before .before .before .before .args .s .now) (c .before .before .before .before .args .k) (c .before .before .number-by-bytes .result) (c .before .half .result) (omega arith) (omega arith) (c .before .before .number-by-bytes .ensures .0) (c .before .before .number-by-bytes .ensures .1) (c .before .half .ensures .0) (omega arith)
+returns c =
+    let a = c .before .before .before .args in
+    let n = c .before .number-by-bytes in
+    let e = raised (n .result) (a .k) (n .ensures .1) (omega arith) (omega arith) in
+    integer-is (a .s .now) (a .k) _ (c .signed-high .result) (c .signed-high .ok) (omega arith) (e ∙ n .ensures .0) (c .signed-high .ensures)
 
 pub integer-by-bytes-spec : {M : Type 1} → statement M
 integer-by-bytes-spec =
     tie.close
-    (tie.spec number-by-bytes-requires half-requires returns sub-result mul-result add-result returns-2)
+    (tie.spec
+    number-by-bytes-requires
+    mul-signed-high
+    sub-signed-high
+    shl-signed-high
+    signed-high-requires
+    returns)

@@ -1,8 +1,6 @@
 -- `integer::integer_of` meets its contract. Assumes nothing.
-use mathlib.Core.Path.{sym, ap, _∙_}
 use native.Mathlib.Omega.{arith}
-use Rattle.format.specs.Numbers.{signed, twos}
-use Rattle.wire.proofs.Integers.{integer-take}
+use Rattle.wire.proofs.Integers.{integer-is}
 use Rattle.wire.proofs.WordLaws.{number-high}
 use borrow.Author.Needs.{needs}
 use Rattle.wire.proofs.integer.integer_of.Statement.{statement}
@@ -16,10 +14,9 @@ signed-high-requires c κs = search needs
 
 returns : tie.Need-returns
 returns c =
-    let s = c .before .before .before .before .args .s .now in
-    let k = c .before .before .before .before .args .k in
-    let n = number-high s k (c .before .word-at .result) (λ i. omega (arith, c .before .before .before .shared-slice-known .given i)) (omega arith) (omega arith) (omega arith) (c .before .word-at .ensures) in
-    c .signed-high .ensures ∙ ap (λ v. twos 8 (signed k v)) (n .0) ∙ sym (ap (twos 8) (integer-take s k (omega arith)))
+    let a = c .before .before .before .before .args in
+    let n = number-high (a .s .now) (a .k) (c .before .word-at .result) (λ i. omega (arith, c .before .before .before .shared-slice-known .given i)) (omega arith) (omega arith) (omega arith) (c .before .word-at .ensures) in
+    integer-is (a .s .now) (a .k) _ (c .signed-high .result) (c .signed-high .ok) (omega arith) (n .0) (c .signed-high .ensures)
 
 integer-by-bytes-requires : tie.Need-integer-by-bytes-requires
 integer-by-bytes-requires c κs = search needs

@@ -1,9 +1,9 @@
 -- `integer::leading_of` meets its contract. Assumes nothing.
 use native.Mathlib.Omega.{arith}
-use mathlib.Core.Path.{_≡_, refl, sym, subst}
-use Prim.Native.Nat.{_+_, _-_}
+use mathlib.Core.Path.{refl, sym, subst}
+use Prim.Native.Nat.{_%_}
 use lib.ListN.{getD}
-use Rattle.format.proofs.Digits.{bytes-of}
+use Rattle.format.proofs.SignedLaws.{to-pos}
 use Rattle.wire.proofs.RowsAt.{small-class-at, long-class-at}
 use Rattle.wire.specs.Heads.{LeadingIs}
 use Rattle.wire.proofs.Leadings.{skip-all, leading-small, leading-long, leading-other}
@@ -36,7 +36,7 @@ returns-3 : tie.Need-returns-3
 returns-3 c =
     let s = c .before .before .before .before .before .before .args .s .now in
     let i = c .before .before .before .before .unpadded .result in
-    leading-small s i (getD s i 0) (omega arith) refl (sym (small-class-at (getD s i 0) (omega arith) (omega arith))) (c .before .before .before .before .unpadded .ensures)
+    leading-small s i (getD s i 0) _ (to-pos (getD s i 0 % 64) (omega arith)) (omega arith) refl (sym (small-class-at (getD s i 0) (omega arith) (omega arith))) (c .before .before .before .before .unpadded .ensures)
 
 returns-4 : tie.Need-returns-4
 returns-4 c =
@@ -52,7 +52,7 @@ returns-5 c =
     let s = c .before .before .before .before .before .before .before .before .before .args .s .now in
     let i = c .before .before .before .before .before .before .before .unpadded .result in
     subst (LeadingIs s) (sym (c .linteger-at .ensures))
-    (leading-long s i (getD s i 0) (bytes-of s (λ j. omega (arith, c .before .before .before .before .before .before .before .before .shared-slice-known .given j))) (omega arith) refl (sym (long-class-at (getD s i 0) (omega arith) (omega arith))) (c .before .before .before .before .before .before .before .unpadded .ensures))
+    (leading-long s i (getD s i 0) (omega arith) refl (sym (long-class-at (getD s i 0) (omega arith) (omega arith))) (c .before .before .before .before .before .before .before .unpadded .ensures))
 
 returns-6 : tie.Need-returns-6
 returns-6 c =

@@ -1,6 +1,7 @@
 -- `integer::linteger_at` meets its contract. Assumes nothing.
 use Rattle.wire.proofs.Leadings.{linteger-short, linteger-found}
 use native.Mathlib.Omega.{arith}
+use Rattle.format.proofs.SignedLaws.{handed}
 use borrow.Author.Needs.{needs}
 use Rattle.wire.proofs.integer.linteger_at.Statement.{statement}
 use Rattle.wire.proofs.integer.linteger_at.Tie as tie
@@ -33,7 +34,7 @@ add-t7 : tie.Need-add-t7
 add-t7 c = search needs
 
 returns-2 : tie.Need-returns-2
-returns-2 c = linteger-found (c .before .before .before .before .before .args .s .now) (c .before .before .before .before .before .args .i) (c .before .before .before .before .before .args .b) (c .before .before .before .following-of .result) (c .integer-of .result) (c .before .before .before .following-of .ensures .0) (omega arith) (c .integer-of .ensures)
+returns-2 c = linteger-found (c .before .before .before .before .before .args .s .now) (c .before .before .before .before .before .args .i) (c .before .before .before .before .before .args .b) (c .before .before .before .following-of .result) _ (c .before .before .before .following-of .ensures .0) (omega arith) (handed _ (c .integer-of .result) (c .integer-of .ok) (c .integer-of .ensures))
 
 pub linteger-at-spec : {M : Type 1} → statement M
 linteger-at-spec =

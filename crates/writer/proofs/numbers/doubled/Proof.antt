@@ -1,5 +1,6 @@
 -- `writer::numbers::doubled` meets its contract. Assumes nothing.
-use Rattle.writer.proofs.SignedLaws.{less-fits, lessened, kept, cast-mag, doubled-fits, doubled-is}
+use Rattle.format.proofs.SignedLaws.{less-fits, lessened, kept, cast-mag}
+use Rattle.writer.proofs.Magnitudes.{doubled-fits, doubled-is}
 use Rattle.writer.proofs.numbers.doubled.Statement.{statement}
 use Rattle.writer.proofs.numbers.doubled.Tie as tie
 

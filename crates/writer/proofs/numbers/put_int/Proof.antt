@@ -6,7 +6,7 @@ use lib.ListN.{length}
 use borrow.Author.Needs.{needs}
 use Rattle.format.specs.Numbers.{width}
 use Rattle.format.specs.Answers.{over}
-use Rattle.writer.proofs.SignedLaws.{handed}
+use Rattle.writer.proofs.Magnitudes.{handed-doubled}
 use Rattle.writer.proofs.NumberLaws.{int-small, int-bytes, int-length-small, int-length-large}
 use Rattle.writer.proofs.Over.{set-0}
 use Rattle.writer.proofs.numbers.put_int.Statement.{statement}
@@ -44,7 +44,7 @@ add-put-tagged c = search needs
 
 put-tagged-requires : tie.Need-put-tagged-requires
 put-tagged-requires c κs =
-    let e = c .before .width .ensures .0 ∙ ap width (c .before .before .doubled .ensures ∙ handed _ (c .before .before .before .value-of .result) (omega arith) (c .before .before .before .value-of .ensures)) in
+    let e = c .before .width .ensures .0 ∙ ap width (c .before .before .doubled .ensures ∙ handed-doubled _ (c .before .before .before .value-of .result) (c .before .before .before .value-of .ok) (c .before .before .before .value-of .ensures)) in
     let l = int-length-large (c .before .before .before .before .before .before .args .v) (c .before .width .result) (omega arith) (omega arith) e (c .before .width .ensures .1) in
     (omega arith, omega arith, omega arith)
 
@@ -54,7 +54,7 @@ same-length-2 c = search needs
 returns-2 : tie.Need-returns-2
 returns-2 c =
     let a = c .before .before .before .before .before .before .before .before .before .args in
-    let e = c .before .before .before .before .width .ensures .0 ∙ ap width (c .before .before .before .before .before .doubled .ensures ∙ handed _ (c .before .before .before .before .before .before .value-of .result) (omega arith) (c .before .before .before .before .before .before .value-of .ensures)) in
+    let e = c .before .before .before .before .width .ensures .0 ∙ ap width (c .before .before .before .before .before .doubled .ensures ∙ handed-doubled _ (c .before .before .before .before .before .before .value-of .result) (c .before .before .before .before .before .before .value-of .ok) (c .before .before .before .before .before .before .value-of .ensures)) in
     c .before .before .put-tagged .ensures
     ∙ ap (λ l. over l (a .out .now)) (sym (int-bytes (a .v) (c .before .before .before .before .width .result) (omega arith) (omega arith) e (c .before .before .before .before .width .ensures .1)))
 

@@ -1,15 +1,15 @@
--- `writer::numbers::value_of` meets its contract. Assumes nothing.
+-- `signed::value_of` meets its contract. Assumes nothing.
 use native.Mathlib.Omega.{arith}
 use borrow.Author.Needs.{needs}
-use Rattle.writer.proofs.SignedLaws.{to-signed, negative-fits, negative-is}
-use Rattle.writer.proofs.numbers.value_of.Statement.{statement}
-use Rattle.writer.proofs.numbers.value_of.Tie as tie
+use Rattle.format.proofs.SignedLaws.{to-signed, negative-fits, negative-is}
+use Rattle.format.proofs.signed.value_of.Statement.{statement}
+use Rattle.format.proofs.signed.value_of.Tie as tie
 
 cast-result : tie.Need-cast-result
 cast-result c = search needs
 
 returns : tie.Need-returns
-returns c = to-signed _ (omega arith)
+returns c = to-signed (c .before .args .w) (omega arith)
 
 sub-result : tie.Need-sub-result
 sub-result c = search needs
@@ -18,10 +18,10 @@ cast-result-2 : tie.Need-cast-result-2
 cast-result-2 c = search needs
 
 sub-result-2 : tie.Need-sub-result-2
-sub-result-2 c = negative-fits (c .before .args .v) (omega arith) (omega arith)
+sub-result-2 c = negative-fits (c .before .args .w) (omega arith) (omega arith)
 
 returns-2 : tie.Need-returns-2
-returns-2 c = negative-is (c .before .args .v) (omega arith) (omega arith)
+returns-2 c = negative-is (c .before .args .w) (omega arith) (omega arith)
 
 pub value-of-spec : {M : Type 1} → statement M
 value-of-spec =

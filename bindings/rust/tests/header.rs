@@ -1,0 +1,117 @@
+//! The crate and the C header agree: constants, version, words.
+
+use msdtp::{kinds, numbers, Refused};
+use std::collections::BTreeMap;
+
+/// The header's text.
+fn header() -> String {
+    let path = concat!(env!("CARGO_MANIFEST_DIR"), "/../../include/msdtp.h");
+    std::fs::read_to_string(path).expect("the C header")
+}
+
+/// What the header defines, by name without `MSDTP_`.
+fn defined(header: &str) -> BTreeMap<&str, &str> {
+    let lines = header.lines();
+    let values = lines.filter_map(|line| line.strip_prefix("#define MSDTP_"));
+    let values = values.filter_map(|line| line.split_once(' '));
+    let values = values.map(|(name, rest)| (name, rest.split("/*").next().unwrap_or(rest)));
+    values.map(|(name, value)| (name, value.trim())).collect()
+}
+
+/// The crate's constants under the header's names, in the header's form.
+fn constants() -> BTreeMap<&'static str, String> {
+    let version: Vec<&str> = msdtp::VERSION.split('.').collect();
+    let words = [
+        ("VERSION", format!("{:?}", msdtp::VERSION)),
+        ("VERSION_MAJOR", version[0].to_string()),
+        ("VERSION_MINOR", version[1].to_string()),
+        ("VERSION_PATCH", version[2].to_string()),
+    ];
+    let sizes = SIZES.map(|(name, value)| (name, value.to_string()));
+    let numbers = NUMBERS.map(|(name, value)| (name, value.to_string()));
+    let kinds = KINDS.map(|(name, value)| (name, value.to_string()));
+    words
+        .into_iter()
+        .chain(sizes)
+        .chain(numbers)
+        .chain(kinds)
+        .collect()
+}
+
+const SIZES: [(&str, usize); 8] = [
+    ("BYTE_LIMIT", msdtp::BYTE_LIMIT),
+    ("ROW_LIMIT", msdtp::ROW_LIMIT),
+    ("WORD_LIMIT", msdtp::WORD_LIMIT),
+    ("DEPTH_LIMIT", msdtp::DEPTH_LIMIT),
+    ("HEADER_WORDS", msdtp::HEADER_WORDS),
+    ("ROW_WORDS", msdtp::ROW_WORDS),
+    ("TABLE_WORDS", msdtp::TABLE_WORDS),
+    ("OUTPUT_BYTES", msdtp::OUTPUT_BYTES),
+];
+
+const NUMBERS: [(&str, u64); 16] = [
+    ("ACCEPTED", numbers::ACCEPTED),
+    ("TOO_LONG", numbers::TOO_LONG),
+    ("PAST_INPUT", numbers::PAST_INPUT),
+    ("PAST_ENCLOSING", numbers::PAST_ENCLOSING),
+    ("UNASSIGNED", numbers::UNASSIGNED),
+    ("TOO_DEEP", numbers::TOO_DEEP),
+    ("BAD_BITS", numbers::BAD_BITS),
+    ("BAD_REPEAT", numbers::BAD_REPEAT),
+    ("SEVERAL_KINDS", numbers::SEVERAL_KINDS),
+    ("BAD_EDT", numbers::BAD_EDT),
+    ("TOO_MANY", numbers::TOO_MANY),
+    ("TABLE_SHORT", numbers::TABLE_SHORT),
+    ("NOT_A_TABLE", numbers::NOT_A_TABLE),
+    ("TOO_NESTED", numbers::TOO_NESTED),
+    ("NORMAL_LONG", numbers::NORMAL_LONG),
+    ("OUTPUT_SHORT", numbers::OUTPUT_SHORT),
+];
+
+const KINDS: [(&str, u64); 8] = [
+    ("INT", kinds::INT),
+    ("BITS", kinds::BITS),
+    ("CHAR", kinds::CHAR),
+    ("BOOL", kinds::BOOL),
+    ("EMPTY", kinds::EMPTY),
+    ("XTRA", kinds::XTRA),
+    ("STRUC", kinds::STRUC),
+    ("EDT", kinds::EDT),
+];
+
+#[test]
+fn the_constants_are_those_of_the_header() {
+    let header = header();
+    let of_header = defined(&header);
+    let of_crate = constants();
+    let of_crate: BTreeMap<&str, &str> = of_crate.iter().map(|(n, v)| (*n, &v[..])).collect();
+    // The header's guard has no value, and so is not among them.
+    assert_eq!(of_header, of_crate);
+}
+
+/// The words of the header for a number, or for those that are none.
+fn words<'h>(header: &'h str, label: &str) -> Vec<&'h str> {
+    let before = format!("{label}: return \"");
+    let lines = header.lines().map(str::trim);
+    let lines = lines.filter_map(|line| line.strip_prefix(&before));
+    lines.filter_map(|line| line.strip_suffix("\";")).collect()
+}
+
+/// A refusal with this number in place of its own.
+fn refused(number: u64) -> Refused {
+    let mut refused = msdtp::normal_length(&[]).unwrap_err();
+    refused.number = number;
+    refused
+}
+
+#[test]
+fn the_words_are_those_of_the_header() {
+    let header = header();
+    for number in 1..=15 {
+        let expected = [refused(number).meaning()];
+        assert_eq!(words(&header, &format!("case {number}")), expected);
+    }
+    assert_eq!(words(&header, "case 0"), ["accepted"]);
+    assert_eq!(words(&header, "default"), [refused(16).meaning()]);
+    assert!(words(&header, "case 16").is_empty());
+}

@@ -1,0 +1,105 @@
+//! The rules for engineers, `docs/FORMAT.md`, held against the library: the
+//! worked examples, the classes of all type-bytes, and the numbers.
+
+use crate::checker::Checker;
+use crate::pages::{message, tables};
+use crate::rooms::{AMPLE_BYTES, AMPLE_WORDS};
+use crate::small_stack::in_both_stacks;
+use crate::told;
+
+/// The rows of the page's table with this first head, which are so many.
+fn rows(head: &str, count: usize) -> Vec<Vec<String>> {
+    let all = tables("FORMAT.md").into_iter();
+    let rows: Vec<_> = all.filter(|(heads, _)| heads[0] == head).collect();
+    assert_eq!(rows.len(), count, "rows under {head}");
+    rows.into_iter().map(|(_, row)| row).collect()
+}
+
+/// The bytes of a cell: nothing, as in the message, in backticks, or in
+/// backticks with a last byte thirty times.
+fn bytes(cell: &str, same: &[u8]) -> Vec<u8> {
+    match (cell, cell.split_once(" and thirty ")) {
+        ("nothing", _) => vec![],
+        ("the same", _) => same.to_vec(),
+        (_, Some((first, last))) => [
+            message(first).expect("bytes"),
+            message(last).expect("a byte").repeat(30),
+        ]
+        .concat(),
+        _ => message(cell).unwrap_or_else(|| panic!("bytes: {cell}")),
+    }
+}
+
+/// A worked example: refused as told, or accepted with the normal form told.
+fn works(checker: &mut Checker, message: &[u8], said: &str, normal: &str) {
+    let answer = checker.normalising(message, AMPLE_WORDS, AMPLE_BYTES);
+    let told = format!("refused {} at {}", answer.number, answer.place);
+    let refused = said.starts_with("refused");
+    let as_said = match refused {
+        true => told == said && normal.is_empty(),
+        false => answer.number == 0,
+    };
+    checker.must(as_said, || format!("{answer:?}: {}", told::bytes(message)));
+    if !refused && !normal.is_empty() {
+        let due = bytes(normal, message);
+        let got = &checker.output()[..answer.length as usize];
+        let same = got == due;
+        let got = told::bytes(got);
+        checker.must(same, || format!("{got}: {}", told::bytes(message)));
+    }
+}
+
+#[test]
+fn the_worked_examples() {
+    let mut checker = Checker::new();
+    let examples = rows("Message", 20);
+    in_both_stacks(&mut checker, |checker| {
+        for row in &examples {
+            for cell in row[0].split(", ") {
+                works(checker, &bytes(cell, &[]), &row[1], &row[2]);
+            }
+        }
+    });
+}
+
+/// The first and the last type-byte of a cell such as `00-7F`, `C0` or `FC, FD`.
+fn range(cell: &str) -> (u8, u8) {
+    let byte = |digits| u8::from_str_radix(digits, 16).expect("a byte");
+    (byte(&cell[..2]), byte(&cell[cell.len() - 2..]))
+}
+
+/// Every type-byte stands once in the table, in order; a byte alone is refused
+/// with 4 exactly where the table says so, and says an item by itself exactly
+/// where no bytes follow it.
+#[test]
+fn the_type_bytes() {
+    let mut checker = Checker::new();
+    let mut next = 0;
+    for row in rows("Type-byte", 17) {
+        let (first, last) = range(&row[0]);
+        assert_eq!(u16::from(first), next, "{}", row[0]);
+        next = u16::from(last) + 1;
+        let due = match (row[3].as_str(), row[2].as_str(), row[1].as_str()) {
+            ("refused 4", _, _) => 4,
+            (_, "none", _) => 0,
+            (_, _, "REPEAT") => 7,
+            _ => 2,
+        };
+        for byte in first..=last {
+            let answer = checker.reading(&[byte], AMPLE_WORDS);
+            checker.must(answer.number == due, || format!("{byte:02X}: {answer:?}"));
+        }
+    }
+    assert_eq!(next, 256);
+    checker.must_agree();
+}
+
+#[test]
+fn every_number_in_order() {
+    let numbers: Vec<String> = rows("No.", 16)
+        .into_iter()
+        .map(|row| row[0].clone())
+        .collect();
+    let all: Vec<String> = (0..=15).map(|number: u64| number.to_string()).collect();
+    assert_eq!(numbers, all);
+}

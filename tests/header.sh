@@ -1,0 +1,78 @@
+#!/usr/bin/env bash
+# Checks include/msdtp.h, as C99 and as C++: that it compiles by itself, that the example in it compiles and prints what it says
+# there, and that what it tells holds of the archive (tests/header). The archive is that of target/staticlib, or of the folder
+# that MSDTP_LIB_DIR names. The last line is 'N passed, M failed', and the exit status is 0 only when nothing failed.
+set -u
+cd "$(dirname "$0")/.." || exit 1
+archive=${MSDTP_LIB_DIR:-target/staticlib}/libmsdtp.a
+folder=$(mktemp -d)
+trap 'rm -rf "$folder"' EXIT
+passed=0
+failed=0
+
+# check NAME COMMAND..: one line for the command, by its exit status; what it printed follows a failure.
+check() {
+    local name=$1
+    shift
+    if "$@" >"$folder/log" 2>&1; then
+        passed=$((passed + 1))
+        printf 'passed: %s\n' "$name"
+    else
+        failed=$((failed + 1))
+        printf 'failed: %s\n' "$name"
+        cat "$folder/log"
+    fi
+}
+
+# compile LANGUAGE ARGUMENT..: with every warning an error.
+compile() {
+    local flags=(-O2 -Wall -Wextra -pedantic -Werror -Iinclude)
+    case $1 in
+    C99) gcc -std=c99 "${flags[@]}" -x c "${@:2}" ;;
+    C++) g++ "${flags[@]}" -x c++ "${@:2}" ;;
+    esac
+}
+
+# The lines of the header's comment after one heading, up to another or to the comment's end, as they stand there.
+lines_after() {
+    awk -v from="$1" -v to="$2" '
+        on && (index($0, to) == 4 || $0 == " */") { exit }
+        on { if (!sub(/^ \*     /, "")) sub(/^ \*/, ""); print }
+        index($0, from) == 4 { on = 1 }' include/msdtp.h
+}
+
+# The example of the header prints what the header says that it prints.
+example() {
+    compile "$1" "$folder/example.c" -x none "$archive" -o "$folder/example" && "$folder/example" | diff "$folder/prints" -
+}
+
+# Runs the checks of tests/header and counts its lines; one that ends otherwise than its lines say is a failure.
+run_checks() {
+    local status
+    "$folder/checks" "$version" >"$folder/printed"
+    status=$?
+    sed -E "s/^(passed|failed): /\\1: $1: /" "$folder/printed"
+    passed=$((passed + $(grep -c '^passed: ' "$folder/printed")))
+    failed=$((failed + $(grep -c '^failed: ' "$folder/printed")))
+    check "$1: exit status of the checks" test "$status" -eq 0
+}
+
+if [ ! -f "$archive" ]; then
+    printf 'The archive libmsdtp.a is not there. Build it with rt staticlib msdtp, or set MSDTP_LIB_DIR to its folder.\n'
+    printf '0 passed, 1 failed\n'
+    exit 1
+fi
+version=$(sed -nE 's/^version = "(.*)"$/\1/p' bindings/rust/Cargo.toml)
+printf '#include "msdtp.h"\n#include "msdtp.h"\n' >"$folder/alone.c"
+lines_after 'AN EXAMPLE' 'It prints' >"$folder/example.c"
+lines_after 'It prints' 'END' | sed '/^$/d' >"$folder/prints"
+check 'the example prints something' test -s "$folder/prints"
+for language in C99 C++; do
+    check "$language: alone" compile "$language" -c "$folder/alone.c" -o "$folder/alone.o"
+    check "$language: the example" example "$language"
+    rm -f "$folder/checks"
+    check "$language: the checks are built" compile "$language" tests/header/*.c -x none "$archive" -o "$folder/checks"
+    run_checks "$language"
+done
+printf '%s passed, %s failed\n' "$passed" "$failed"
+[ "$failed" -eq 0 ]

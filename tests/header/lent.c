@@ -1,0 +1,105 @@
+/* The lent buffers and the calls that all checks share. */
+
+#include <stdio.h>
+#include <string.h>
+
+#include "lent.h"
+
+uint64_t table[WORDS], made[WORDS];
+uint8_t message[BYTES], output[BYTES];
+int failed;
+int answered[MSDTP_OUTPUT_SHORT + 1];
+
+const char *meaning_elsewhere(uint64_t number)
+{
+    return msdtp_meaning(number);
+}
+
+void check(const char *name, int good)
+{
+    printf("%s: %s\n", good ? "passed" : "failed", name);
+    failed = failed || !good;
+}
+
+/* Whether a number is the one expected, which then counts as met. */
+static int is(uint64_t number, uint64_t expected)
+{
+    if (number != expected) {
+        return 0;
+    }
+    answered[expected] = 1;
+    return 1;
+}
+
+void refill(void)
+{
+    memset(table, FILLER, sizeof table);
+    memset(output, FILLER, sizeof output);
+}
+
+/* Whether all bytes of a table or an output from one of them on are as filled. */
+static int untouched(const void *buffer, size_t from, size_t length)
+{
+    const uint8_t *bytes = (const uint8_t *)buffer;
+
+    while (from < length && bytes[from] == FILLER) {
+        from++;
+    }
+    return from >= length;
+}
+
+int table_untouched(uint64_t from)
+{
+    return untouched(table, from * sizeof *table, sizeof table);
+}
+
+int output_untouched(uint64_t from)
+{
+    return untouched(output, from, sizeof output);
+}
+
+int refused_read(size_t length, size_t room, uint64_t number, uint64_t place, uint64_t words)
+{
+    struct msdtp_reading r;
+    struct msdtp_normalising n;
+
+    refill();
+    r = msdtp_read(message, length, table, room);
+    n = msdtp_normalise(message, length, table, room, output, MSDTP_OUTPUT_BYTES);
+    return is(r.number, number) && r.place == place && r.words == words
+        && n.number == number && n.place == place && n.words == words && n.length == 0
+        && table_untouched(0) && output_untouched(0);
+}
+
+int accepted_read(size_t length, size_t room, uint64_t words)
+{
+    struct msdtp_reading r;
+
+    refill();
+    r = msdtp_read(message, length, table, room);
+    return is(r.number, MSDTP_ACCEPTED) && r.place == 0 && r.words == words
+        && table_untouched(words);
+}
+
+int refused_write(size_t words, size_t room, uint64_t number, uint64_t length)
+{
+    struct msdtp_writing w, l;
+
+    refill();
+    w = msdtp_write(made, words, output, room);
+    l = msdtp_normal_length(made, words);
+    return is(w.number, number) && w.length == length && output_untouched(0)
+        && l.number == (number == MSDTP_OUTPUT_SHORT ? MSDTP_ACCEPTED : number)
+        && l.length == length;
+}
+
+int accepted_write(size_t words, size_t room, uint64_t length)
+{
+    struct msdtp_writing w, l;
+
+    refill();
+    w = msdtp_write(made, words, output, room);
+    l = msdtp_normal_length(made, words);
+    return is(w.number, MSDTP_ACCEPTED) && w.length == length && output_untouched(length)
+        && l.number == MSDTP_ACCEPTED && l.length == length;
+}

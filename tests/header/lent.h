@@ -1,0 +1,51 @@
+/*
+ * What the checks of include/msdtp.h share: lent buffers, each call with what it
+ * may touch, and the count of what failed. C99, and C++ as well.
+ */
+
+#ifndef HEADER_LENT_H
+#define HEADER_LENT_H
+
+#include "msdtp.h"
+
+/* Buffers are lent with some room more, filled beforehand. */
+enum { MORE = 8, FILLER = 0xA5 };
+enum { WORDS = MSDTP_TABLE_WORDS + MORE, BYTES = MSDTP_BYTE_LIMIT + MORE };
+
+extern uint64_t table[WORDS], made[WORDS];
+extern uint8_t message[BYTES], output[BYTES];
+
+/* Whether a check failed. */
+extern int failed;
+
+/* The numbers from 0 to 15 that were answered as expected. */
+extern int answered[MSDTP_OUTPUT_SHORT + 1];
+
+/* Prints a check's line. */
+void check(const char *name, int good);
+
+/* Fills the table and the output; whether they are as filled from there on. */
+void refill(void);
+int table_untouched(uint64_t from);
+int output_untouched(uint64_t from);
+
+/* Reading and normalising the message are both refused and touch nothing. */
+int refused_read(size_t length, size_t room, uint64_t number, uint64_t place, uint64_t words);
+
+/* The message is read with so many words, and nothing past them is touched. */
+int accepted_read(size_t length, size_t room, uint64_t words);
+
+/* Writing the made table is refused and touches nothing; so is its length, but with 15. */
+int refused_write(size_t words, size_t room, uint64_t number, uint64_t length);
+
+/* The made table is written in so many bytes, and nothing past them is touched. */
+int accepted_write(size_t words, size_t room, uint64_t length);
+
+/* msdtp_meaning as another translation unit has it. */
+const char *meaning_elsewhere(uint64_t number);
+
+/* The checks of tables.c and of limits.c. */
+void check_tables(void);
+void check_limits(void);
+
+#endif

@@ -1,0 +1,112 @@
+/*
+ * Holds include/msdtp.h against the archive: what the header tells, and nothing
+ * else, is used to make tables and to judge answers. The argument is the version
+ * that the header is to have. Prints a line for each check, 'passed: NAME' or
+ * 'failed: NAME'; the exit status is 0 only when nothing failed.
+ */
+
+#include <stdio.h>
+#include <string.h>
+
+#include "lent.h"
+
+static void check_layout(const char *version)
+{
+    char parts[40];
+
+    check("struct sizes", sizeof(struct msdtp_reading) == 24
+          && sizeof(struct msdtp_writing) == 16 && sizeof(struct msdtp_normalising) == 32);
+    sprintf(parts, "%d.%d.%d", MSDTP_VERSION_MAJOR, MSDTP_VERSION_MINOR, MSDTP_VERSION_PATCH);
+    check("version in parts", strcmp(parts, MSDTP_VERSION) == 0);
+    check("version of the Rust crate", strcmp(version, MSDTP_VERSION) == 0);
+    check("always enough words", MSDTP_TABLE_WORDS
+          == MSDTP_HEADER_WORDS + MSDTP_ROW_WORDS * MSDTP_ROW_LIMIT + MSDTP_WORD_LIMIT);
+    check("always enough bytes", MSDTP_OUTPUT_BYTES == MSDTP_BYTE_LIMIT);
+}
+
+/* Each number has words of its own, the same in both translation units. */
+static void check_meanings(void)
+{
+    const uint64_t last = MSDTP_OUTPUT_SHORT;
+    uint64_t number, other;
+    int good = 1;
+
+    for (number = 0; number <= last + 1; number++) {
+        const char *words = msdtp_meaning(number);
+
+        good = good && words != NULL && *words && strcmp(words, meaning_elsewhere(number)) == 0;
+        for (other = 0; good && other < number; other++) {
+            good = strcmp(words, msdtp_meaning(other)) != 0;
+        }
+    }
+    check("a meaning for each number", good);
+    check("accepted", strcmp(msdtp_meaning(MSDTP_ACCEPTED), "accepted") == 0);
+    check("one meaning for what is no number",
+          strcmp(msdtp_meaning(last + 1), msdtp_meaning(UINT64_MAX)) == 0);
+}
+
+/* The refusals of reading that few bytes get. */
+static void check_reading(void)
+{
+    static const struct {
+        const char *name;
+        uint64_t number, place;
+        size_t length;
+        uint8_t bytes[8];
+    } cases[] = {
+        { "past the input", MSDTP_PAST_INPUT, 1, 2, { 0x80, 0xE1 } },
+        { "past the enclosing", MSDTP_PAST_ENCLOSING, 2, 3, { 0xC2, 0x01, 0xE1 } },
+        { "unassigned", MSDTP_UNASSIGNED, 0, 1, { 0xC0 } },
+        { "bad bits", MSDTP_BAD_BITS, 0, 2, { 0xF1, 0x00 } },
+        { "bad repeat", MSDTP_BAD_REPEAT, 0, 1, { 0xC4 } },
+        { "several kinds", MSDTP_SEVERAL_KINDS, 0, 4, { 0xC5, 0x02, 0x81, 0x41 } },
+        { "bad EDT", MSDTP_BAD_EDT, 0, 3, { 0xC3, 0x81, 0x00 } },
+        { "4 before 9, which comes after the contents", MSDTP_UNASSIGNED, 2, 3, { 0xC3, 0x01, 0xC0 } },
+        { "2 before 6", MSDTP_PAST_INPUT, 0, 2, { 0xF2, 0x00 } },
+    };
+    size_t i;
+
+    for (i = 0; i < sizeof cases / sizeof *cases; i++) {
+        memcpy(message, cases[i].bytes, cases[i].length);
+        check(cases[i].name, refused_read(cases[i].length, MSDTP_TABLE_WORDS,
+                                          cases[i].number, cases[i].place, 0));
+    }
+}
+
+/* An empty buffer may be null: each one, wherever it is lent. */
+static void check_null(void)
+{
+    check("null: a message of nothing, no table",
+          msdtp_read(NULL, 0, NULL, 0).number == MSDTP_TABLE_SHORT);
+    check("null: a message of nothing",
+          msdtp_read(NULL, 0, table, MSDTP_HEADER_WORDS).number == MSDTP_ACCEPTED);
+    check("null: a message of nothing, normalised",
+          msdtp_normalise(NULL, 0, table, MSDTP_HEADER_WORDS, NULL, 0).number == MSDTP_ACCEPTED);
+    check("null: no output", msdtp_write(table, MSDTP_HEADER_WORDS, NULL, 0).number == MSDTP_ACCEPTED);
+    check("null: no table", msdtp_write(NULL, 0, NULL, 0).number == MSDTP_NOT_A_TABLE
+          && msdtp_normal_length(NULL, 0).number == MSDTP_NOT_A_TABLE);
+}
+
+/* Each of the numbers was answered in some check. */
+static void check_numbers(void)
+{
+    size_t number;
+    int all = 1;
+
+    for (number = 0; number < sizeof answered / sizeof *answered; number++) {
+        all = all && answered[number];
+    }
+    check("each number answered", all);
+}
+
+int main(int count, char **arguments)
+{
+    check_layout(count > 1 ? arguments[1] : "");
+    check_meanings();
+    check_tables();
+    check_reading();
+    check_null();
+    check_limits();
+    check_numbers();
+    return failed;
+}
