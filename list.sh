@@ -112,7 +112,7 @@ case ${1-} in
     exit
     ;;
 esac
-top=$(cd -- "$(dirname -- "$0")" && pwd) || stop 3 'not built: the folder of list.sh cannot be entered'
+top=$(cd -- "$(dirname -- "$(readlink -f -- "$0")")" && pwd) || stop 3 'not built: the folder of list.sh cannot be entered'
 program=$top/target/bin/sheetlist
 { exec 7>&1 7>&-; } 2>/dev/null || stop 4 'standard output is closed'
 open_message "${1-$top/examples/empty-chest.msg}"

@@ -104,6 +104,11 @@ expect 'a name with a space, from another folder' 0 "$work/measure" '' 'a sheet.
 expect 'a name with a dash in front' 0 "$work/measure" '' -x.msg
 expect 'a file that is named -' 0 "$work/measure" '' ./-
 expect 'a folder that is named -h' 2 "$work/nothing" './-h is a folder' ./-h
+ln -s "$copy/list.sh" "$work/linked"
+bash "$work/linked" "$work/-" >"$work/out" 2>"$work/err"
+ended=$?
+[ "$ended" -eq 0 ] && cmp -s "$work/out" "$work/measure" && said ''
+tally 'by a link' $?
 
 # not_written NAME: list.sh, whose output went astray, says one line and ends with 4.
 not_written() {
@@ -118,7 +123,7 @@ bash "$copy/list.sh" >&- 2>"$work/err"
 not_written 'a closed output' 'list.sh: standard output is closed'
 
 # Without rt, and with one that proves nothing.
-for tool in dirname mktemp rm cat flock; do
+for tool in dirname readlink mktemp rm cat flock; do
     ln -s "$(command -v "$tool")" "$work/tools/$tool"
 done
 bash=$(command -v bash)
