@@ -3,16 +3,12 @@
 # the exit statuses, what is said while building, and two runs at once. Ends with 'N passed, M failed'.
 set -u
 cd "$(dirname "$0")/.." || exit 1
-passed=0
-failed=0
-work=$(mktemp -d)
-trap 'rm -rf "$work"' EXIT
+. tests/tally.sh
+work=$folder
 copy="$work/a copy"
 program=target/bin/sheetlist
 if [ ! -x "$program" ] || [ ! -f target/stamp/sheetlist ]; then
-    echo 'tests/list.sh: build target/bin/sheetlist (rt check sheetlist) first'
-    echo '0 passed, 1 failed'
-    exit 1
+    lacking 'tests/list.sh: build target/bin/sheetlist (rt check sheetlist) first'
 fi
 mkdir -p "$copy/target" "$work/stub" "$work/none" "$work/tools"
 cp -R crates.txt crates examples list.sh "$copy"
@@ -216,5 +212,4 @@ tally "the status by the listing's first word" $?
 leftover=$(cd "$copy" && find . -maxdepth 1 ! -name . ! -name crates.txt ! -name crates ! -name examples ! -name list.sh ! -name target)
 [ -z "$leftover" ]
 tally "nothing left behind: $leftover" $?
-printf '%s passed, %s failed\n' "$passed" "$failed"
-[ "$failed" -eq 0 ] && [ "$passed" -gt 0 ]
+end

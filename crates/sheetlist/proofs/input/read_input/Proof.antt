@@ -1,18 +1,41 @@
 -- `read_input` meets its contract. The loop's invariant: the bytes read so far lie within those lent, and those lent stay as many.
 -- The measure is what is left of the room. Assumes nothing.
-use Prim.Native.Nat.{ℕ, _-_, _≤_, _<_}
-use mathlib.Core.Path.{_≡_, subst}
+use Prim.Native.Nat.{ℕ, zero, suc, _+_, _-_, _≤_, _<_, min}
+use mathlib.Core.Path.{_≡_, sym, subst}
+use native.Mathlib.Omega.{arith}
 use lib.ListN.{length}
+use lib.IntN.{ℤ, pos, negsuc}
 use borrow.Author.Needs.{needs}
-use Rattle.sheetlist.specs.Inputs.{Came}
-use Rattle.sheetlist.specs.declared.input.Answer.{Answer}
-use Rattle.sheetlist.specs.declared.input.Answer.the-variants as answer
+use Rattle.sheetlist.specs.Inputs.{came, stepped, Held}
+use Rattle.sheetlist.specs.declared.input.Input.{Input}
+use Rattle.sheetlist.specs.declared.input.Step.{Step}
+use Rattle.sheetlist.specs.declared.input.Step.the-variants as step
 use Rattle.sheetlist.proofs.input.read_input.Statement.{statement}
 use Rattle.sheetlist.proofs.input.read_input.Tie as tie
 
--- bytes that came are some, and at most n
-bytes-within : (n k : ℕ) (r : Answer) → r ≡ answer.Bytes k → Came n r → (0 < k) × (k ≤ n)
-bytes-within n k r e h = subst (λ x. Came n x) e h
+-- after d bytes, with room for n more: bytes that came are some, and all lie within the room
+abbrev Within : ℕ → ℕ → Step → Type 0
+Within d n (step.More m) = (d < m) × (m ≤ d + n)
+Within d n (step.Ends i) = Held (d + n) i
+
+came-within : (d n k : ℕ) → k ≤ n → Within d n (came d k)
+unfolding came
+came-within d n zero h = omega arith
+came-within d n (suc k) h = (omega arith, omega arith)
+
+stepped-within : (d n : ℕ) (z : ℤ) → Within d n (stepped d z n)
+unfolding stepped
+stepped-within d n (pos k) = came-within d n (min k n) (omega arith)
+stepped-within d n (negsuc k) = tt
+
+step-within : (d n : ℕ) (z : ℤ) (r s : Step) → r ≡ stepped d z n → r ≡ s → Within d n s
+step-within d n z r s e f = subst (Within d n) f (subst (Within d n) (sym e) (stepped-within d n z))
+
+more-within : (d n m : ℕ) (z : ℤ) (r : Step) → r ≡ stepped d z n → r ≡ step.More m → (d < m) × (m ≤ d + n)
+more-within d n m z r e f = step-within d n z r (step.More m) e f
+
+ends-within : (d n l : ℕ) (z : ℤ) (r : Step) (i : Input) → r ≡ stepped d z n → r ≡ step.Ends i → d + n ≡ l → Held l i
+ends-within d n l z r i e f h = subst (λ k. Held k i) h (step-within d n z r (step.Ends i) e f)
 
 abbrev Inv-loop : tie.InvT-loop
 Inv-loop fd buf₀ done₀ buf done = (done ≤ length buf) × (length buf ≡ length buf₀)
@@ -35,56 +58,44 @@ part-read-end c = search needs
 read-requires : tie.Need-read-requires Inv-loop μ-loop
 read-requires c κs = search needs
 
-sub-answer-of : tie.Need-sub-answer-of Inv-loop μ-loop
-sub-answer-of c = search needs
+sub-step-of : tie.Need-sub-step-of Inv-loop μ-loop
+sub-step-of c = search needs
 
-part-answer-of-start : tie.Need-part-answer-of-start Inv-loop μ-loop
-part-answer-of-start c = search needs
+part-step-of-start : tie.Need-part-step-of-start Inv-loop μ-loop
+part-step-of-start c = search needs
 
-part-answer-of-end : tie.Need-part-answer-of-end Inv-loop μ-loop
-part-answer-of-end c = search needs
+part-step-of-end : tie.Need-part-step-of-end Inv-loop μ-loop
+part-step-of-end c = search needs
 
-answer-of-requires : tie.Need-answer-of-requires Inv-loop μ-loop
-answer-of-requires c κs = search needs
+step-of-requires : tie.Need-step-of-requires Inv-loop μ-loop
+step-of-requires c κs = search needs
 
-enum-known-answer : tie.Need-enum-known-answer Inv-loop μ-loop
-enum-known-answer c = search needs
-
-add-done : tie.Need-add-done Inv-loop μ-loop
-add-done c =
-    let b = (bytes-within _ _ (c .before .before .before .answer-of .result) (c .before .answer .given .1) (c .before .before .before .answer-of .ensures .1)) in search needs
+enum-known-step : tie.Need-enum-known-step Inv-loop μ-loop
+enum-known-step c = search needs
 
 loop-less : tie.Need-loop-less Inv-loop μ-loop
 loop-less c =
-    let b = (bytes-within _ _ (c .before .before .before .answer-of .result) (c .before .answer .given .1) (c .before .before .before .answer-of .ensures .1)) in search needs
+    let b = more-within _ _ _ _ (c .before .before .before .step-of .result) (c .before .before .before .step-of .ensures) (c .before .step .given .1) in search needs
 
 loop-again : tie.Need-loop-again Inv-loop μ-loop
 loop-again c =
-    let b = (bytes-within _ _ (c .before .before .before .answer-of .result) (c .before .answer .given .1) (c .before .before .before .answer-of .ensures .1)) in search needs
+    let b = more-within _ _ _ _ (c .before .before .before .step-of .result) (c .before .before .before .step-of .ensures) (c .before .step .given .1) in search needs
 
-enum-told : tie.Need-enum-told Inv-loop μ-loop
-enum-told c = search needs
+enum-known-step-2 : tie.Need-enum-known-step-2 Inv-loop μ-loop
+enum-known-step-2 c = search needs
 
 same-length : tie.Need-same-length Inv-loop μ-loop
 same-length c = search needs
 
 returns : tie.Need-returns Inv-loop μ-loop
-returns c = search needs
-
-enum-told-2 : tie.Need-enum-told-2 Inv-loop μ-loop
-enum-told-2 c = search needs
+returns c =
+    ends-within _ _ _ _ (c .before .before .before .step-of .result) (c .before .step2 .given .0 .0) (c .before .before .before .step-of .ensures) (c .before .step2 .given .1) (search needs)
 
 same-length-2 : tie.Need-same-length-2 Inv-loop μ-loop
 same-length-2 c = search needs
 
 returns-2 : tie.Need-returns-2 Inv-loop μ-loop
 returns-2 c = search needs
-
-same-length-3 : tie.Need-same-length-3 Inv-loop μ-loop
-same-length-3 c = search needs
-
-returns-3 : tie.Need-returns-3 Inv-loop μ-loop
-returns-3 c = search needs
 
 pub read-input-spec : {M : Type 1} → statement M
 read-input-spec =
@@ -97,19 +108,15 @@ read-input-spec =
     part-read-start
     part-read-end
     read-requires
-    sub-answer-of
-    part-answer-of-start
-    part-answer-of-end
-    answer-of-requires
-    enum-known-answer
-    add-done
+    sub-step-of
+    part-step-of-start
+    part-step-of-end
+    step-of-requires
+    enum-known-step
     loop-less
     loop-again
-    enum-told
+    enum-known-step-2
     same-length
     returns
-    enum-told-2
     same-length-2
-    returns-2
-    same-length-3
-    returns-3)
+    returns-2)
