@@ -10,7 +10,7 @@ use denote.Enum.Declared.{tagOf}
 use Rattle.format.specs.Items.{Items, end, join}
 use Rattle.format.specs.Tables.{count, rows, dataWords, rowWords}
 use Rattle.format.specs.Objects.{headOf}
-use Rattle.format.specs.Messages.{says, got, onto, reads}
+use Rattle.format.specs.Messages.{Outcome, refused, says, got, onto, reads}
 use Rattle.format.specs.Answers.{over}
 use Rattle.format.proofs.Counts.{words, rows-join, count-join, words-join, row-words-join}
 use Rattle.format.proofs.TableLaws.{row-length}
@@ -132,6 +132,12 @@ pub record RowsInv (d : ℕ) (s : List ℕ) (base : ℕ) (t₀ t : List ℕ) (i 
   pub few : base + w ≤ 16384
   pub long : length t ≡ length t₀
 
+-- items before a run that is accepted, and is the same without them, have no rows
+onto-self : (ys : Items) (n : ℕ) (o : Outcome) → o ≡ onto ys n o → (xs : Items) (i : ℕ) (all : Items) → onto xs i o ≡ says all → rows ys ≡ 0
+unfolding onto
+onto-self ys n (refused f) e xs i all h = let z : _≡_ {A = ℕ} 0 1 = cc in absurd (omega arith)
+onto-self ys n (says zs) e xs i all h = let q : zs ≡ join ys zs = cc in omega (arith, ap rows q, rows-join ys zs)
+
 pub rows-start : (d : ℕ) (s : List ℕ) (base : ℕ) (t : List ℕ) → RunFits d s base (length t) → RowsInv d s base t t 0 0 0 0
 unfolding rows count dataWords rowWords
 rows-start d s base t f =
@@ -196,6 +202,16 @@ module _ (d : ℕ) (s : List ℕ) (base : ℕ) (t₀ t : List ℕ) (i r c w : �
         few = v .few;
         long = x .long ∙ v .long;
       }
+
+  -- a stretch that did not get further has no rows
+  pub stretch-stay : (t′ : List ℕ) (e n : ℕ) → Stretched s i (3 * r) t t′ e n → e ≤ i → RowsInv d s base t₀ t′ i r c w
+  stretch-stay t′ e n x h =
+      let q : e ≡ i = let x1 = x .from in omega arith in
+      let o : reads d (drop i s) ≡ onto (x .items) (e - i) (reads d (drop i s)) = x .said d ∙ ap (λ m. onto (x .items) (e - i) (reads d (drop m s))) q in
+      let z : n ≡ 0 = x .rows-are ∙ onto-self (x .items) (e - i) (reads d (drop i s)) o (v .xs) i (v .all) (sym (v .passed .so-far) ∙ v .passed .said) in
+      let qr : r + n ≡ r = omega arith in
+      let qc : c + n ≡ c = omega arith in
+      rw (qr, qc, q) at (stretch-turn t′ e n x)
 
   module _ (b : ℕ) (h : i < length s) (e : b ≡ getD s i 0) where
     -- the bytes and the part of the table that the code lends on

@@ -7,7 +7,7 @@ use mathlib.Core.Logic.{_≢_}
 use mathlib.Core.List.{List, [], _∷_}
 use lib.ListN.{length, take, drop}
 use lib.Dec.{eqb}
-use Rattle.format.specs.Items.{char, struc, Items, end, leaf, group, one, join}
+use Rattle.format.specs.Items.{char, struc, edt, Items, end, leaf, group, one, join}
 use Rattle.format.specs.Objects as O
 use Rattle.format.specs.Messages.{says, got, object, onto, next, reads}
 use Rattle.format.proofs.Choices.{eq-true, eq-false, split-eq, ifEq-yes, ifEq-no}
@@ -79,13 +79,13 @@ module _ (d b : ℕ) (s : List ℕ) (n : ℕ) (ys : Items) (u : ℕ) (h : ShortA
       record {
         xs = O.characters (take n (drop 1 s));
         said = text-string b (take n (drop 1 s)) q d;
-        closes = sym p1 ∙ rw ifEq-yes refl;
+        closes = sym p1 ∙ rw (ifEq-no b 0xc3 edt struc (omega arith)) refl;
         past = sym p2;
       })
       (λ q.
-      split-eq b 0xc2
-      (λ q2. by-wrap q Struc (rw ifEq-yes refl) (λ xs. rw (ifEq-no, ifEq-yes) refl))
-      (λ n2.
+      split-eq b 0xc3
+      (λ q3. by-wrap q Edt (rw ifEq-yes refl) (λ xs. rw ifEq-yes refl))
+      (λ n3.
       split-eq b 0xc5
-      (λ q5. by-wrap q Ustruc (rw (ifEq-no, ifEq-yes) refl) (λ xs. rw (ifEq-no, ifEq-no, ifEq-yes) refl))
-      (λ n5. by-wrap q Edt (rw (ifEq-no, ifEq-no) refl) (λ xs. rw (ifEq-no, ifEq-no, ifEq-no) refl))))
+      (λ q5. by-wrap q Ustruc (rw (ifEq-no, ifEq-yes) refl) (λ xs. rw ifEq-no refl))
+      (λ n5. by-wrap q Struc (rw (ifEq-no, ifEq-no) refl) (λ xs. rw ifEq-no refl))))

@@ -1,26 +1,30 @@
 -- The rows of a stretch, one object more at a time. Assumes nothing.
-use Prim.Native.Nat.{ℕ, zero, suc, _+_, _-_, _*_, _%_, _≤_, _<_, zero-le}
+use Prim.Native.Nat.{ℕ, zero, suc, _+_, _-_, _*_, _/_, _%_, _≤_, _<_, zero-le}
 use native.Mathlib.Omega.{arith}
 use native.Mathlib.Nat.{le-refl, add-zero}
 use mathlib.Core.Path.{_≡_, refl, sym, ap, ap₂, _∙_, subst}
+use mathlib.Core.Bool.{Bool, false, not}
 use mathlib.Core.List.{List, [], _∷_, _++_, append-assoc, append-nil}
+use lib.Dec.{eqb}
 use lib.ListN.{length, take, drop, getD, length-append, length-drop}
 use lib.Seq.{length-take-le}
 use Rattle.format.specs.Items.{Leaf, Items, end, leaf, one, join}
 use Rattle.format.specs.Numbers.{twos}
-use Rattle.format.specs.Objects.{contents, integer}
+use Rattle.format.specs.Objects.{contents, following, integer}
 use Rattle.format.specs.Messages.{object, got, onto, next, reads}
 use Rattle.format.specs.Tables.{rows, count, dataWords, rowWords}
 use Rattle.format.specs.Answers.{over}
-use Rattle.format.proofs.Choices.{split}
+use Rattle.format.proofs.Choices.{split, true-eq}
 use Rattle.format.proofs.Counts.{words, join-end, rows-join, count-join, words-join, row-words-join}
 use Rattle.format.proofs.Parts.{rest-part}
 use Rattle.format.proofs.Steps.{objectAt}
 use Rattle.format.proofs.TableLaws.{row-length}
 use Rattle.wire.specs.Ranges.{Between}
-use Rattle.wire.specs.Heads.{IsRow, RowAt, lateKind, lateValue}
+use Rattle.wire.specs.Heads.{IsRow, RowAt}
 use Rattle.wire.proofs.Ranges.{between-none, between-join, between-next}
-use Rattle.wire.proofs.RowsAt.{char-at, small-at, long-at, late-at}
+use Rattle.wire.proofs.ShortLaws.{held}
+use Rattle.wire.proofs.RowsAt.{char-at, small-at, long-at, xtra-at, bool-at, empty-at}
+use Rattle.fill.specs.declared.stretch.Stretch.{Stretch}
 use Rattle.fill.specs.Stretch.{Ranged, LongOf, Bare, Stretched}
 use Rattle.fill.proofs.Over.{over-self, over-length, grown}
 use Rattle.fill.proofs.PlainLaws.{gap-head}
@@ -44,6 +48,10 @@ char-range b s g h = let e : b - 0 ≡ b = omega arith in rw e (char-at b s (ome
 
 pub small-range : Ranged 0x80 0xbf 1
 small-range b s g h = let e : b - 0x80 ≡ b % 64 = omega arith in rw e (small-at b s g (omega arith))
+
+-- an LINTEGER's type-byte, as the code tells it
+pub long-of : (b k : ℕ) (t : Bool) → t ≡ eqb (b / 8) 0x1c → not t ≡ false → k ≡ following b → LongOf b k
+long-of b k t e n f = let q : b / 8 ≡ 0x1c = true-eq (b / 8) 0x1c (sym e ∙ held t n) in (omega arith, omega arith, f)
 
 -- ---- bytes without data words
 gap-object : (d b : ℕ) (s : List ℕ) → 0xff ≤ b → b ≤ 0xff → objectAt d b s ≡ got end 0
@@ -96,10 +104,17 @@ module _ (s : List ℕ) (i : ℕ) where
     pub bare-high : 0xf8 ≤ getD s e 0 → getD s e 0 ≤ 0xff → Bare s i (e + 1)
     bare-high g l =
         let b : ℕ = getD s e 0 in
+        let r : List ℕ = drop (e + 1) s in
         subst (Bare s i) (add-zero (e + 1))
-        (split b 0xff
-        (λ l. bare-row (lateKind b) (lateValue b) 0 zero-le (late-at b (drop (e + 1) s) g l))
-        (λ f. bare-object end 0 zero-le (unfold dataWords in refl) (λ d. gap-object d b (drop (e + 1) s) f l)))
+        (split b 0xfc
+        (λ x. bare-row 6 (b % 4) 0 zero-le (xtra-at b r g x))
+        (λ x.
+        split b 0xfe
+        (λ y. bare-row 4 (b % 2) 0 zero-le (bool-at b r x y))
+        (λ y.
+        split b 0xff
+        (λ z. bare-row 5 0 0 zero-le (empty-at b r (omega arith)))
+        (λ z. bare-object end 0 zero-le (unfold dataWords in refl) (λ d. gap-object d b r z l)))))
 
     pub bare-long : (k : ℕ) → LongOf (getD s e 0) k → k < length s - e → Bare s i (e + (1 + k))
     bare-long k q l =
@@ -174,12 +189,6 @@ module _ (s : List ℕ) (i used : ℕ) (t₀ : List ℕ) where
         subst (λ p. Stretched s i used t₀ t′ p (n + 1)) (add-zero (e + 1))
         (stretched-next kind (getD s e 0 - lo) 0 zero-le (r (getD s e 0) (drop (e + 1) s) g l) t′ w)
 
-    pub stretched-late : 0xf8 ≤ getD s e 0 → getD s e 0 < 0xff → (k v : ℕ) → (k ≡ lateKind (getD s e 0)) × (v ≡ lateValue (getD s e 0))
-        → (t′ : List ℕ) → t′ ≡ over (take (used + 3 * n) t ++ (k ∷ 0 ∷ v ∷ [])) t → Stretched s i used t₀ t′ (e + 1) (n + 1)
-    stretched-late g l k v q t′ w =
-        subst (λ p. Stretched s i used t₀ t′ p (n + 1)) (add-zero (e + 1))
-        (stretched-next k v 0 zero-le (rw (q .0, q .1) (late-at (getD s e 0) (drop (e + 1) s) g l)) t′ w)
-
     pub stretched-long : (b k v : ℕ) → LongOf b k → getD s e 0 ≡ b → k ≤ length s - (e + 1) → v ≡ twos 8 (integer (take k (take (length s - (e + 1)) (drop (e + 1) s))))
         → (t′ : List ℕ) → t′ ≡ over (take (used + 3 * n) t ++ (1 ∷ 0 ∷ v ∷ [])) t → Stretched s i used t₀ t′ (e + 1 + k) (n + 1)
     stretched-long b k v q eb l ev t′ w =
@@ -242,21 +251,14 @@ pub stretched-stop : (s : List ℕ) (i used : ℕ) (t₀ t t′ : List ℕ) (e n
     → Stretched s i used t₀ t′ e (n + m)
 stretched-stop s i used t₀ t t′ e n f m c x k = subst (λ p. Stretched s i used t₀ t′ p (n + m)) k (stretched-join s i used t₀ t t′ e n f m c x)
 
--- ---- one object
-module _ (s : List ℕ) (i used : ℕ) (t t′ : List ℕ) (h : i < length s) (free : used + 3 ≤ length t) where
-  none : Stretched s i used t t i 0
-  none = stretched-none s i used t (omega arith) (omega arith)
-
-  row : (k v : ℕ) → t′ ≡ over (take used t ++ (k ∷ 0 ∷ v ∷ [])) t → t′ ≡ over (take (used + 3 * 0) t ++ (k ∷ 0 ∷ v ∷ [])) t
-  row k v w = let z : used + 3 * 0 ≡ used = omega arith in rw z w
-
-  pub one-integer : (b k v : ℕ) → LongOf b k → b ≡ getD s i 0 → k ≤ length s - (i + 1) → v ≡ twos 8 (integer (take k (take (length s - (i + 1)) (drop (i + 1) s))))
-      → t′ ≡ over (take used t ++ (1 ∷ 0 ∷ v ∷ [])) t → Stretched s i used t t′ (i + 1 + k) 1
-  one-integer b k v q eb l ev w = stretched-long s i used t t i 0 none h (omega arith) b k v q (sym eb) l ev t′ (row 1 v w)
-
-  pub one-late : 0xf8 ≤ getD s i 0 → getD s i 0 < 0xff → t′ ≡ over (take used t ++ (lateKind (getD s i 0) ∷ 0 ∷ lateValue (getD s i 0) ∷ [])) t
-      → Stretched s i used t t′ (i + 1) 1
-  one-late g l w = stretched-late s i used t t i 0 none h (omega arith) g l (lateKind (getD s i 0)) (lateValue (getD s i 0)) (refl, refl) t′ (row (lateKind (getD s i 0)) (lateValue (getD s i 0)) w)
+-- ---- an object of one byte, as the code answers it
+pub one-row : (s : List ℕ) (i used : ℕ) (t t′ : List ℕ) → i < length s → used + 3 ≤ length t → (x : Stretch) (k v : ℕ) → RowAt (getD s i 0) (drop (i + 1) s) k v 0
+    → (x ≡ record { upto = i + 1; rows = 1 }) × (t′ ≡ over (take used t ++ (k ∷ 0 ∷ v ∷ [])) t) → Stretched s i used t t′ (x .upto) (x .rows)
+one-row s i used t t′ h free x k v r w =
+    let z : used + 3 * 0 ≡ used = omega arith in
+    rw (w .0)
+    (subst (λ p. Stretched s i used t t′ p 1) (add-zero (i + 1))
+    (stretched-next s i used t t i 0 (stretched-none s i used t (omega arith) (omega arith)) h (omega arith) k v 0 zero-le r t′ (rw z (w .1))))
 
 -- ---- padding
 -- n bytes of padding from e on

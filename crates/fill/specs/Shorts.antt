@@ -18,7 +18,7 @@ insideOf d b c = ifEq b 0xc6 (says (characters c)) (reads (d + 1) c)
 
 unfoldable pub groupOf : ℕ → Group
 unfolding ifEq
-groupOf b = ifEq b 0xc6 struc (ifEq b 0xc2 struc (ifEq b 0xc5 struc edt))
+groupOf b = ifEq b 0xc3 edt struc
 
 -- found to be characters, however deep; or not found so, and no string
 abbrev pub TextIs : ℕ → List ℕ → Bool → Type 0

@@ -15,9 +15,12 @@ use super::plain::put_characters;
 use super::plain::put_plain;
 use super::plain::put_row;
 use super::stretch::put_stretch;
+use format::tree::is_non_atomic;
 use wire::head::Head;
 use wire::head::Wrap;
 use wire::head::head_of;
+use wire::short::is_edt;
+use wire::short::is_string;
 use wire::short::short_size;
 use wire::span::until;
 
@@ -105,23 +108,14 @@ fn fill_object(depth: usize, b: u8, s: &[u8], base: usize, table: &mut [u64]) ->
 fn kind_of(b: u8) -> u64
     ensures { λ r. ⌜ r ≡ rowKind (groupOf b) ⌝ }
 {
-    if b == 0xc6 {
-        return 7;
-    }
-    if b == 0xc2 {
-        return 7;
-    }
-    if b == 0xc5 {
-        return 7;
-    }
-    8
+    if is_edt(b) { 8 } else { 7 }
 }
 
 // Whether all that such an object has is characters; c are its contents.
 fn is_text(b: u8, c: &[u8]) -> bool
     ensures { λ r. ⌜ TextIs b (now (c .entry)) r ⌝ }
 {
-    if b == 0xc6 {
+    if is_string(b) {
         return true;
     }
     until(c, 0, 0, 0x7f) == c.len()
@@ -151,7 +145,8 @@ fn fill_short(depth: usize, b: u8, c: &[u8], base: usize, table: &mut [u64]) -> 
     }
 }
 
-// The rows of a run of objects; `base` data words come before it. Short containers are tried first: they come one after another.
+// The rows of a run of objects; `base` data words come before it. Of the non-atomic objects those with a size of one byte are tried
+// first, of the others stretches; what is neither goes by its head.
 pub fn fill_run(depth: usize, s: &[u8], base: usize, table: &mut [u64]) -> Filled
     requires { ⌜ (depth + length (now s) ≤ 65536) × RunFits depth (now s) base (length (now table)) ⌝ }
     ensures { λ r. ⌜ RunFilled depth (now (s .entry)) base (now (table .entry)) (now (table .exit)) r ⌝ }
@@ -161,26 +156,29 @@ pub fn fill_run(depth: usize, s: &[u8], base: usize, table: &mut [u64]) -> Fille
     let mut count: usize = 0;
     let mut words: usize = 0;
     while i < s.len() {
-        let n = short_size(depth, s[i], &s[i + 1..]);
-        if n > 0 {
-            let from = i + 2;
-            let end = from + n;
-            let used = 3 * rows;
-            let f = fill_short(depth, s[i], &s[from..end], base + words, &mut table[used..]);
-            rows += f.rows;
-            count += 1;
-            words += f.words;
-            i = end;
-            continue;
-        }
-        let l = put_stretch(s, i, table, 3 * rows);
-        i = l.upto;
-        rows += l.rows;
-        count += l.rows;
-        if i >= s.len() {
-            continue;
-        }
         let b = s[i];
+        if is_non_atomic(b) {
+            let n = short_size(depth, b, &s[i + 1..]);
+            if n > 0 {
+                let from = i + 2;
+                let end = from + n;
+                let used = 3 * rows;
+                let f = fill_short(depth, b, &s[from..end], base + words, &mut table[used..]);
+                rows += f.rows;
+                count += 1;
+                words += f.words;
+                i = end;
+                continue;
+            }
+        } else {
+            let l = put_stretch(s, i, table, 3 * rows);
+            if l.upto > i {
+                i = l.upto;
+                rows += l.rows;
+                count += l.rows;
+                continue;
+            }
+        }
         i += 1;
         let used = 3 * rows;
         let o = fill_object(depth, b, &s[i..], base + words, &mut table[used..]);

@@ -1,16 +1,16 @@
 // Stretches: the rows of many small objects, laid out in a tight loop.
 ghost use mathlib.Core.Path.{_≡_};
-ghost use Prim.Native.Nat.{_+_, _*_, _≤_, _<_};
+ghost use Prim.Native.Nat.{_+_, _*_, _^_, _≤_, _<_};
 ghost use mathlib.Core.List.{_∷_, [], _++_};
-ghost use lib.ListN.{length, take, getD};
+ghost use lib.ListN.{length, take};
 ghost use Rattle.format.specs.Answers.{over};
-ghost use Rattle.wire.specs.Heads.{lateKind, lateValue};
 ghost use Rattle.fill.specs.Stretch.{Ranged, LongOf, Stretched};
 use super::least::least;
+use format::Class;
 use format::signed::word_of;
+use format::tree::class_of;
 use wire::integer::following_of;
 use wire::integer::integer_of;
-use wire::late::late_row;
 use wire::padding::padding_end;
 
 // Where a stretch ends, and how many rows it has.
@@ -29,13 +29,16 @@ fn put_at(table: &mut [u64], at: usize, kind: u64, value: u64)
     table[at + 2] = value;
 }
 
-// The row of a one-byte item from F8 to FE, behind `at` words of the table.
-fn put_late(table: &mut [u64], at: usize, b: u8)
-    requires { ⌜ at + 3 ≤ length (now table) ⌝ }
-    ensures { λ r. ⌜ now (table .exit) ≡ over (take at (now (table .entry)) ++ (lateKind b ∷ 0 ∷ lateValue b ∷ [])) (now (table .entry)) ⌝ }
+// One such row, of the item that is the byte at i alone.
+fn put_one(table: &mut [u64], at: usize, i: usize, kind: u64, value: u64) -> Stretch
+    requires { ⌜ (at + 3 ≤ length (now table)) × (i + 1 < 2 ^ 64) ⌝ }
+    ensures { λ r. ⌜ (r ≡ record { upto = i + 1; rows = 1 }) × (now (table .exit) ≡ over (take at (now (table .entry)) ++ (kind ∷ 0 ∷ value ∷ [])) (now (table .entry))) ⌝ }
 {
-    let r = late_row(b);
-    put_at(table, at, r.kind, r.value);
+    put_at(table, at, kind, value);
+    Stretch {
+        upto: i + 1,
+        rows: 1,
+    }
 }
 
 // A row of the kind for each of the bytes lo to hi from i on, as many as there are and as the table has room for behind `used`
@@ -66,10 +69,9 @@ fn put_same(s: &[u8], i: usize, table: &mut [u64], used: usize, b: u8, k: usize)
     requires { ⌜ (i ≤ length (now s)) × (used ≤ length (now table)) × LongOf b k ⌝ }
     ensures { λ r. ⌜ Stretched (now (s .entry)) i used (now (table .entry)) (now (table .exit)) (r .upto) (r .rows) ⌝ }
 {
-    let room = (table.len() - used) / 3;
     let mut upto = i;
     let mut rows: usize = 0;
-    while rows < room {
+    while table.len() - used - 3 * rows >= 3 {
         if s.len() - upto <= k {
             return Stretch { upto, rows };
         }
@@ -89,64 +91,37 @@ fn put_same(s: &[u8], i: usize, table: &mut [u64], used: usize, b: u8, k: usize)
     Stretch { upto, rows }
 }
 
-// The rows of the integers from i on, where the type-byte of the first is b: one, or all of that type-byte where many may come.
-fn put_integers(s: &[u8], i: usize, table: &mut [u64], used: usize, b: u8) -> Stretch
-    requires { ⌜ (i < length (now s)) × (used + 3 ≤ length (now table)) × (b ≡ getD (now s) i 0) × (0xe0 ≤ b) × (b ≤ 0xe7) ⌝ }
-    ensures { λ r. ⌜ Stretched (now (s .entry)) i used (now (table .entry)) (now (table .exit)) (r .upto) (r .rows) ⌝ }
-{
-    let behind = i + 1;
-    let left = s.len() - behind;
-    let k = following_of(b);
-    if left >= 64 {
-        return put_same(s, i, table, used, b, k);
-    }
-    if left < k {
-        return Stretch { upto: i, rows: 0 };
-    }
-    put_at(table, used, 1, word_of(integer_of(&s[behind..], k)));
-    Stretch {
-        upto: behind + k,
-        rows: 1,
-    }
-}
-
-// The rows of the objects of one kind from i on, or padding; nothing where another object stands there, or an integer cut short.
-fn put_kind(s: &[u8], i: usize, table: &mut [u64], used: usize) -> Stretch
+// The rows of the objects of one class from i on, or padding; nothing where another object stands there, or an integer cut short.
+fn put_class(s: &[u8], i: usize, table: &mut [u64], used: usize) -> Stretch
     requires { ⌜ (i < length (now s)) × (used + 3 ≤ length (now table)) ⌝ }
     ensures { λ r. ⌜ Stretched (now (s .entry)) i used (now (table .entry)) (now (table .exit)) (r .upto) (r .rows) ⌝ }
 {
     let b = s[i];
-    if b < 0x80 {
-        let n = put_range(s, i, table, used, 0, 0x7f, 3);
-        return Stretch {
-            upto: i + n,
-            rows: n,
-        };
-    }
-    if b < 0xc0 {
-        let n = put_range(s, i, table, used, 0x80, 0xbf, 1);
-        return Stretch {
-            upto: i + n,
-            rows: n,
-        };
-    }
-    if b < 0xe0 {
-        return Stretch { upto: i, rows: 0 };
-    }
-    if b < 0xe8 {
-        return put_integers(s, i, table, used, b);
-    }
-    if b < 0xf8 {
-        return Stretch { upto: i, rows: 0 };
-    }
-    if b == 0xff {
-        let upto = padding_end(s, i + 1);
-        return Stretch { upto, rows: 0 };
-    }
-    put_late(table, used, b);
-    Stretch {
-        upto: i + 1,
-        rows: 1,
+    let class = class_of(b);
+    match class {
+        Class::Char7 => {
+            let n = put_range(s, i, table, used, 0, 0x7f, 3);
+            Stretch {
+                upto: i + n,
+                rows: n,
+            }
+        }
+        Class::Sinteger => {
+            let n = put_range(s, i, table, used, 0x80, 0xbf, 1);
+            Stretch {
+                upto: i + n,
+                rows: n,
+            }
+        }
+        Class::Linteger => put_same(s, i, table, used, b, following_of(b)),
+        Class::Xtra => put_one(table, used, i, 6, (b % 4) as u64),
+        Class::Bool => put_one(table, used, i, 4, (b % 2) as u64),
+        Class::Empty => put_one(table, used, i, 5, 0),
+        Class::Padding => {
+            let upto = padding_end(s, i + 1);
+            Stretch { upto, rows: 0 }
+        }
+        _ => Stretch { upto: i, rows: 0 },
     }
 }
 
@@ -163,7 +138,7 @@ pub fn put_stretch(s: &[u8], i: usize, table: &mut [u64], used: usize) -> Stretc
         if table.len() - at < 3 {
             return Stretch { upto, rows };
         }
-        let l = put_kind(s, upto, table, at);
+        let l = put_class(s, upto, table, at);
         rows += l.rows;
         if l.upto == upto {
             return Stretch { upto, rows };

@@ -8,9 +8,12 @@ use super::copies::copies_of;
 use super::copies::copy_words;
 use super::plain::Stored;
 use super::plain::put_data;
+use format::tree::ones_of;
 use wire::head::Head;
 use wire::head::head_of;
 use wire::integer::following_of;
+use wire::integer::is_linteger;
+use wire::short::is_string;
 use wire::short::short_size;
 
 // The data words of the object whose type-byte is b; s are the bytes behind it, up to the end of the enclosing object.
@@ -21,7 +24,7 @@ fn data_object(depth: usize, b: u8, s: &[u8], table: &mut [u64]) -> Stored
     let size = short_size(depth, b, s);
     if size > 0 {
         let end = 1 + size;
-        if b == 0xc6 {
+        if is_string(b) {
             return Stored {
                 words: 0,
                 past: end,
@@ -49,7 +52,8 @@ fn data_object(depth: usize, b: u8, s: &[u8], table: &mut [u64]) -> Stored
     }
 }
 
-// Where the one-byte items, the padding and the integers from i on end: none of them has data words.
+// Where the one-byte items, the padding and the integers from i on end: none of them has data words. Fewer than two ones are
+// CHAR7's and SINTEGER's, more than four XTRA's, BOOL's, EMPTY's and PADDING's.
 fn bare_end(s: &[u8], i: usize) -> usize
     requires { ⌜ i ≤ length (now s) ⌝ }
     ensures { λ r. ⌜ Bare (now (s .entry)) i r ⌝ }
@@ -57,18 +61,16 @@ fn bare_end(s: &[u8], i: usize) -> usize
     let mut e = i;
     while e < s.len() {
         let b = s[e];
-        if b < 0xc0 {
+        let ones = ones_of(b);
+        if ones < 2 {
             e += 1;
             continue;
         }
-        if b >= 0xf8 {
+        if ones > 4 {
             e += 1;
             continue;
         }
-        if b < 0xe0 {
-            return e;
-        }
-        if b >= 0xe8 {
+        if !is_linteger(b) {
             return e;
         }
         let k = following_of(b);

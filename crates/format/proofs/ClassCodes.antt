@@ -5,7 +5,7 @@ use mathlib.Core.Bool.{Bool, true}
 use mathlib.Core.List.{List, [], _∷_}
 use native.Mathlib.Omega.{arith}
 use native.Mathlib.Nat.{add-zero, zero-add, add-suc, suc-add}
-use lib.ListN.{length, getD, List·getD-eq-default}
+use lib.ListN.{length, getD}
 use Rattle.format.specs.declared.Class.{Class}
 use Rattle.format.specs.declared.Class.the-variants as C
 use Rattle.format.specs.Choice.{both}
@@ -49,16 +49,9 @@ abbrev pub NoneBelow : ℕ → ℕ → Type 0
 NoneBelow zero x = Unit {0}
 NoneBelow (suc n) x = NoneBelow n x × (x ≡ n → ⊥)
 
-none-below : (n x : ℕ) → NoneBelow n x → n ≤ x
+pub none-below : (n x : ℕ) → NoneBelow n x → n ≤ x
 none-below zero x r = omega arith
 none-below (suc n) x r = let h = none-below n x (r .0) in let e = r .1 in omega arith
-
-past-list : (n : ℕ) → 14 ≤ n → named n ≡ C.Reserved
-unfolding named
-past-list n h = List·getD-eq-default classes C.Reserved h
-
-pub by-rest : (c : Class) (x : ℕ) → x ≡ codeOf c → NoneBelow 14 x → C.Reserved ≡ c
-by-rest c x p r = sym (past-list x (none-below 14 x r)) ∙ ap named p ∙ named-code c
 
 -- a test passes at each entry of a list and its place, counted from i
 unfoldable pub every : (ℕ → ℕ → Bool) → ℕ → List ℕ → Bool

@@ -6,6 +6,8 @@ pub mod BitLaws
 pub mod Marker
 pub mod Steps
 pub mod ClassCodes
+pub mod TreeLaws
+pub mod OnesLaws
 pub mod TypeBytes
 pub mod Sizes
 pub mod ItemLaws

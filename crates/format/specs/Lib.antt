@@ -12,5 +12,6 @@ pub mod Tables
 pub mod Normal
 pub mod Answers
 pub mod Examples
--- No meaning: how the code numbers the classes.
+-- No meanings: how the code numbers the classes, and the count by which it tells them.
 pub mod Codes
+pub mod Ones

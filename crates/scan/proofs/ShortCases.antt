@@ -54,10 +54,10 @@ by-fault f u x = go (eqb f 0)
 closed-is : (b u : ℕ) (xs : Items) → asObject u (shortClosed b (sumOf xs)) ≡ answerObject (closing (shortWrap b) u xs)
 unfolding ifEq shortClosed faultOf shortKind shortWrap asObject wrapOf closedOf
 closed-is b u xs =
-    split-eq b 0xc2 (λ e. rw e (sym (closed-answer Struc u xs)))
-    (λ n. rw (eq-false b 0xc2 n)
+    split-eq b 0xc3 (λ e. rw (eq-true b 0xc3 e) (by-fault (edtFault (sumOf xs)) u (groupOf 8 (sumOf xs)) ∙ sym (closed-answer Edt u xs)))
+    (λ n. rw (eq-false b 0xc3 n)
     (split-eq b 0xc5 (λ e. rw (eq-true b 0xc5 e) (by-fault (ustrucFault (sumOf xs)) u (groupOf (strucKind (sumOf xs .mix)) (sumOf xs)) ∙ sym (closed-answer Ustruc u xs)))
-    (λ m. rw (eq-false b 0xc5 m) (by-fault (edtFault (sumOf xs)) u (groupOf 8 (sumOf xs)) ∙ sym (closed-answer Edt u xs)))))
+    (λ m. rw (eq-false b 0xc5 m) (sym (closed-answer Struc u xs)))))
 
 -- ---- contents that are all CHARs
 -- what n of them come to
@@ -90,16 +90,16 @@ chars-closed : (b n : ℕ) → n ≤ 127 → shortText b n ≡ shortClosed b (ch
 unfolding ifEq shortText textFault shortClosed faultOf ustrucFault shortKind chars strucKind
 chars-closed b n h =
     let r : cap (cap n + cap 1) ≡ n + 1 = omega arith in
-    split-eq b 0xc2 (λ e. rw e (ap (λ x. Accepted (oneOf 9 x 0)) (sym r)))
-    (λ n. rw (eq-false b 0xc2 n)
+    split-eq b 0xc3 (λ e. rw (eq-true b 0xc3 e, chars-fault _) refl)
+    (λ n. rw (eq-false b 0xc3 n)
     (split-eq b 0xc5 (λ e. rw (eq-true b 0xc5 e) (ap (λ x. Accepted (oneOf 9 x 0)) (sym r)))
-    (λ m. rw (eq-false b 0xc5 m, chars-fault _) refl)))
+    (λ m. rw (eq-false b 0xc5 m) (ap (λ x. Accepted (oneOf 9 x 0)) (sym r)))))
 
 chars-say : (d : ℕ) (c : List ℕ) → Between 0 0x7f 0 (length c) c → (xs : Items) × (reads d c ≡ says xs) × (sumOf xs ≡ powerOf (length c) (oneOf 3 1 0))
 unfolding onto
 chars-say d c w =
     let z : length c - 0 ≡ length c = omega arith in
-    let l = chars-leapt c 0 (length c) zero-le (le-refl (length c)) w in (
+    let l = chars-leapt c 0 (length c) (zero-le, le-refl (length c), w) in (
       l .items,
       l .over d ∙ ap (onto (l .items) (length c - 0)) (ap (reads d) (drop-of-length-le c (le-refl (length c))) ∙ reads-nil d) ∙ ap says (join-end (l .items)),
       sym (l .sum-is) ∙ ap (λ k. powerOf k (oneOf 3 1 0)) z,

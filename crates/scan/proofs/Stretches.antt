@@ -1,5 +1,5 @@
 -- Many small objects at once. Assumes nothing.
-use Prim.Native.Nat.{ℕ, zero, suc, _+_, _-_, _%_, _≤_, _<_}
+use Prim.Native.Nat.{ℕ, zero, suc, _+_, _-_, _≤_, _<_}
 use native.Mathlib.Omega.{arith}
 use native.Mathlib.Nat.{add-zero, le-refl}
 use mathlib.Core.Path.{_≡_, refl, sym, ap, ap₂, _∙_, subst}
@@ -19,10 +19,9 @@ use Rattle.format.proofs.Counts.{times-zero, times-suc, join-assoc}
 use Rattle.format.proofs.Steps.{objectAt}
 use Rattle.wire.specs.Ranges.{Between}
 use Rattle.wire.proofs.Ranges.{between-none, between-join, between-next}
-use Rattle.wire.specs.Heads.{RowAt, lateKind}
-use Rattle.wire.proofs.RowsAt.{long-at, late-at}
+use Rattle.wire.specs.Heads.{RowAt}
+use Rattle.wire.proofs.RowsAt.{long-at}
 use Rattle.scan.specs.declared.summary.Summary.{Summary}
-use Rattle.scan.specs.declared.stretch.Leap.{Leap}
 use Rattle.scan.specs.Sums.{sumOf, nothingOf, oneOf, plusOf, powerOf}
 use Rattle.scan.specs.Stretch.{Counted, Leapt}
 use Rattle.scan.proofs.SumLaws.{sum-none, sum-row, sum-join, sum-times}
@@ -90,7 +89,7 @@ unfolding objectAt headOf object
 by-class c b x y e f g =
     record { items = x; sum-is = g; object-is = λ d s. ap (object (λ h n. reads (suc d) (contents s h n))) (ap (λ k. headBy k d b s) e ∙ f d s) }
 
-pub a-char : (b : ℕ) → 0 ≤ b → b ≤ 0x7f → Single (oneOf 3 1 0) b
+a-char : (b : ℕ) → 0 ≤ b → b ≤ 0x7f → Single (oneOf 3 1 0) b
 unfolding headBy leafKind leafWords
 a-char b l h = by-class C.Char7 b (one (char b)) (oneOf 3 1 0) (char-class b (omega arith)) (λ d s. refl) (sum-row (char b) 3 refl refl)
 
@@ -101,13 +100,13 @@ a-small b l h =
     by-class C.Sinteger b (one (int (pos (b - 0x80)))) (oneOf 1 1 0) (rw e at (small-class (b - 0x80) (omega arith))) (λ d s. refl)
     (sum-row (int (pos (b - 0x80))) 1 refl refl)
 
-pub padding : (b : ℕ) → 0xff ≤ b → b ≤ 0xff → Single nothingOf b
+padding : (b : ℕ) → 0xff ≤ b → b ≤ 0xff → Single nothingOf b
 unfolding headBy classOf
 padding b l h =
     let e : b ≡ 0xff = omega arith in
     by-class C.Padding b end nothingOf (ap classOf e) (λ d s. refl) sum-none
 
-pub power-none : (n : ℕ) → powerOf n nothingOf ≡ nothingOf
+power-none : (n : ℕ) → powerOf n nothingOf ≡ nothingOf
 unfolding times
 power-none n = ap (powerOf n) (sym sum-none) ∙ sym (sum-times n end) ∙ sum-none
 
@@ -169,26 +168,6 @@ module _ (s : List ℕ) where
             ∙ ap (λ z. next (object (λ a m. reads (suc d) (contents (drop (i + 1) s) a m)) z) (λ w. reads d (drop (i + (1 + w)) s))) (r .head d));
       }
 
-  many-counted : (i e : ℕ) → i ≤ e → e ≤ length s → Many s (oneOf 1 1 0) i (e - i) → Counted s i e (e - i)
-  many-counted i e p q m =
-      let k : i + (e - i) ≡ e = omega arith in
-      record {
-        items = m .items;
-        sum-is = m .sum-is;
-        from = p;
-        to = q;
-        few = omega arith;
-        over = λ d. m .over d ∙ ap (λ n. onto (m .items) (e - i) (reads d (drop n s))) k;
-      }
-
-  -- one, and as many more as there are
-  pub counted-smalls : (i e : ℕ) → 0x80 ≤ getD s i 0 → getD s i 0 < 0xc0 → (i + 1 ≤ e) × (e ≤ length s) × Between 0x80 0xbf (i + 1) e s → Counted s i e (e - i)
-  counted-smalls i e l g w =
-      let p : i ≤ e = omega (arith, w .0) in
-      many-counted i e p (w .1)
-      (each-byte 0x80 0xbf (oneOf 1 1 0) a-small s i e p (w .1)
-      (between-join 0x80 0xbf i (i + 1) e s (between-next 0x80 0xbf i i s (between-none 0x80 0xbf i s) l (omega arith)) (w .2)))
-
   -- n bytes, the type-byte b with them
   pub counted-long : (i b n : ℕ) → getD s i 0 ≡ b → 0xe0 ≤ b → b ≤ 0xe7 → n ≡ 1 + following b → n ≤ length s - i → Counted s i (i + n) 1
   counted-long i b n e g l k h =
@@ -213,38 +192,42 @@ many-leapt s k i e p q m =
       over = λ d. m .over d ∙ ap (λ n. onto (m .items) (e - i) (reads d (drop n s))) z;
     }
 
-pub chars-leapt : (s : List ℕ) (i e : ℕ) → i ≤ e → e ≤ length s → Between 0 0x7f i e s → Leapt s i (record { upto = e; kind = 3; many = e - i })
-chars-leapt s i e p q h = many-leapt s 3 i e p q (each-byte 0 0x7f (oneOf 3 1 0) a-char s i e p q h)
+pub chars-leapt : (s : List ℕ) (i e : ℕ) → (i ≤ e) × (e ≤ length s) × Between 0 0x7f i e s → Leapt s i (record { upto = e; kind = 3; many = e - i })
+chars-leapt s i e h = many-leapt s 3 i e (h .0) (h .1) (each-byte 0 0x7f (oneOf 3 1 0) a-char s i e (h .0) (h .1) (h .2))
+
+-- one SINTEGER, and as many more as there are
+pub smalls-leapt : (s : List ℕ) (i e : ℕ) → 0x80 ≤ getD s i 0 → getD s i 0 < 0xc0 → (i + 1 ≤ e) × (e ≤ length s) × Between 0x80 0xbf (i + 1) e s
+    → Leapt s i (record { upto = e; kind = 1; many = e - i })
+smalls-leapt s i e l g h =
+    let p : i ≤ e = omega (arith, h .0) in
+    let b = between-join 0x80 0xbf i (i + 1) e s (between-next 0x80 0xbf i i s (between-none 0x80 0xbf i s) l (omega arith)) (h .2) in
+    many-leapt s 1 i e p (h .1) (each-byte 0x80 0xbf (oneOf 1 1 0) a-small s i e p (h .1) b)
 
 -- no items: padding, or nothing at all
-none-leapt : (s : List ℕ) (i e k n : ℕ) → i ≤ e → e ≤ length s → Many s nothingOf i (e - i) → n ≡ 0 → Leapt s i (record { upto = e; kind = k; many = n })
-none-leapt s i e k n p q m w =
+pub padding-leapt : (s : List ℕ) (i e : ℕ) → (i ≤ e) × (e ≤ length s) × Between 0xff 0xff i e s → Leapt s i (record { upto = e; kind = 0; many = 0 })
+padding-leapt s i e h =
+    let m = each-byte 0xff 0xff nothingOf padding s i e (h .0) (h .1) (h .2) in
+    let p = h .0 in
     let z : i + (e - i) ≡ e = omega arith in
     record {
       items = m .items;
-      sum-is = ap (λ x. powerOf x (oneOf k 1 0)) w ∙ sym (power-zero (oneOf k 1 0)) ∙ sym (m .sum-is ∙ power-none (e - i));
-      from = p;
-      to = q;
+      sum-is = sym (power-zero (oneOf 0 1 0)) ∙ sym (m .sum-is ∙ power-none (e - i));
+      from = h .0;
+      to = h .1;
       over = λ d. m .over d ∙ ap (λ x. onto (m .items) (e - i) (reads d (drop x s))) z;
     }
 
-pub padding-leapt : (s : List ℕ) (i e : ℕ) (r : Leap) → (i ≤ e) × (e ≤ length s) × Between 0xff 0xff i e s → (r .upto ≡ e) × (r .many ≡ 0) → Leapt s i r
-padding-leapt s i e r h w =
-    none-leapt s i (r .upto) (r .kind) (r .many) (omega (arith, w .0)) (omega (arith, w .0))
-    (rw (w .0) (each-byte 0xff 0xff nothingOf padding s i e (h .0) (h .1) (h .2))) (w .1)
+pub no-leap : (s : List ℕ) (i : ℕ) → i ≤ length s → Leapt s i (record { upto = i; kind = 0; many = 0 })
+no-leap s i h = padding-leapt s i i (le-refl i, h, between-none 0xff 0xff i s)
 
-pub no-leap : (s : List ℕ) (i : ℕ) (r : Leap) → i ≤ length s → (r .upto ≡ i) × (r .many ≡ 0) → Leapt s i r
-no-leap s i r h w = padding-leapt s i i r (le-refl i, h, between-none 0xff 0xff i s) w
-
-pub late-leapt : (s : List ℕ) (i k : ℕ) → i < length s → 0xf8 ≤ getD s i 0 → getD s i 0 < 0xff → k ≡ lateKind (getD s i 0)
-    → Leapt s i (record { upto = i + 1; kind = k; many = 1 })
+-- one item, whose byte stands alone
+pub row-leapt : (s : List ℕ) (i k v : ℕ) → i < length s → RowAt (getD s i 0) (drop (i + 1) s) k v 0 → Leapt s i (record { upto = i + 1; kind = k; many = 1 })
 unfolding next objectAt object powerOf
-late-leapt s i k h g l w =
-    let r = late-at (getD s i 0) (drop (i + 1) s) g l in
+row-leapt s i k v h r =
     let z : i + 1 - i ≡ 1 + 0 = omega arith in
     record {
       items = one (r .leaf);
-      sum-is = ap (λ n. oneOf n 1 0) w ∙ sym (sum-row (r .leaf) (lateKind (getD s i 0)) (r .row .kind) (r .row .none));
+      sum-is = sym (sum-row (r .leaf) k (r .row .kind) (r .row .none));
       from = omega arith;
       to = omega arith;
       over = λ d.

@@ -29,14 +29,14 @@ asObject u (Accepted a) = Got a u
 -- the refusal of a container for the kinds of its elements, or 0, by its type-byte
 unfoldable pub faultOf : ℕ → Summary → ℕ
 unfolding ifEq ustrucFault edtFault
-faultOf b a = ifEq b 0xc2 0 (ifEq b 0xc5 (ustrucFault a) (edtFault a))
+faultOf b a = ifEq b 0xc3 (edtFault a) (ifEq b 0xc5 (ustrucFault a) 0)
 
 -- the kind of a container by its type-byte and the kinds met
 unfoldable pub shortKind : ℕ → ℕ → ℕ
 unfolding ifEq strucKind
-shortKind b m = ifEq b 0xc2 (strucKind m) (ifEq b 0xc5 (strucKind m) EDT)
+shortKind b m = ifEq b 0xc3 EDT (strucKind m)
 
 -- a container of CHARs alone: its refusal, or 0
 unfoldable pub textFault : ℕ → ℕ
 unfolding ifEq
-textFault b = ifEq b 0xc2 0 (ifEq b 0xc5 0 bad-edt)
+textFault b = ifEq b 0xc3 bad-edt 0

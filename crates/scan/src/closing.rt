@@ -11,6 +11,8 @@ use super::summary::edt;
 use super::summary::power;
 use super::summary::struc;
 use wire::head::Wrap;
+use wire::short::is_edt;
+use wire::short::is_ustruc;
 
 // What an object comes to: the number and the place of its refusal, from the type-byte on; or its items' summary and its
 // bytes past the type-byte.
@@ -46,39 +48,30 @@ fn edt_fault(a: Summary) -> usize
 pub fn fault_of(b: u8, a: Summary) -> usize
     ensures { λ r. ⌜ r ≡ faultOf b a ⌝ }
 {
-    if b == 0xc2 {
-        return 0;
+    if is_edt(b) {
+        return edt_fault(a);
     }
-    if b == 0xc5 {
+    if is_ustruc(b) {
         return ustruc_fault(a);
     }
-    edt_fault(a)
+    0
 }
 
 // The same of one whose elements are all CHARs.
 pub fn text_fault(b: u8) -> usize
     ensures { λ r. ⌜ r ≡ textFault b ⌝ }
 {
-    if b == 0xc2 {
-        return 0;
-    }
-    if b == 0xc5 {
-        return 0;
-    }
-    9
+    if is_edt(b) { 9 } else { 0 }
 }
 
 // The item that such a container is.
 pub fn group_of(b: u8, a: Summary) -> Summary
     ensures { λ r. ⌜ r ≡ groupOf (shortKind b (a .mix)) a ⌝ }
 {
-    if b == 0xc2 {
-        return struc(a);
+    if is_edt(b) {
+        return edt(a);
     }
-    if b == 0xc5 {
-        return struc(a);
-    }
-    edt(a)
+    struc(a)
 }
 
 // A container that is the item `one`, if it has no fault.

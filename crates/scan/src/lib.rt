@@ -16,6 +16,7 @@ use closing::closed;
 use closing::fault_of;
 use closing::group_of;
 use closing::text_fault;
+use format::tree::is_non_atomic;
 use stretch::all_chars;
 use stretch::leap_from;
 use summary::STRING;
@@ -28,6 +29,7 @@ use summary::plus;
 use summary::plus_many;
 use wire::head::Head;
 use wire::head::head_of;
+use wire::short::is_string;
 use wire::short::short_size;
 
 // What a run of objects comes to: the number and the place of its refusal, or its items' summary.
@@ -36,8 +38,9 @@ pub enum Scanned {
     Accepted(Summary),
 }
 
-// A run of objects with `depth` containers around it. Recursion goes only into containers, so that the stack stays shallow.
-// Most containers have a size of one byte, and are tried first.
+// A run of objects with `depth` containers around it. Recursion goes only into containers, so that the stack stays shallow. Of the
+// non-atomic objects those with a size of one byte, as most have, are tried first, of the others stretches; what is neither goes
+// by its head.
 fn scan_run(depth: usize, s: &[u8]) -> Scanned
     requires { ⌜ (length (now s) ≤ 65536) × (depth ≤ 16) ⌝ }
     ensures { λ r. ⌜ r ≡ answer (reads depth (now (s .entry))) ⌝ }
@@ -47,24 +50,27 @@ fn scan_run(depth: usize, s: &[u8]) -> Scanned
     while i < s.len() {
         let b = s[i];
         let behind = i + 1;
-        let n = short_size(depth, b, &s[behind..]);
-        if n > 0 {
-            let end = i + 2 + n;
-            let r = scan_short(depth, b, &s[i + 2..end]);
-            match r {
-                Scanned::Refused(number, place) => return Scanned::Refused(number, i + place),
-                Scanned::Accepted(one) => {
-                    sum = plus(sum, one);
-                    i = end;
-                    continue;
+        if is_non_atomic(b) {
+            let n = short_size(depth, b, &s[behind..]);
+            if n > 0 {
+                let end = i + 2 + n;
+                let r = scan_short(depth, b, &s[i + 2..end]);
+                match r {
+                    Scanned::Refused(number, place) => return Scanned::Refused(number, i + place),
+                    Scanned::Accepted(one) => {
+                        sum = plus(sum, one);
+                        i = end;
+                        continue;
+                    }
                 }
             }
-        }
-        let l = leap_from(s, i);
-        if l.upto > i {
-            sum = plus_many(sum, l.kind, l.many);
-            i = l.upto;
-            continue;
+        } else {
+            let l = leap_from(s, i);
+            if l.upto > i {
+                sum = plus_many(sum, l.kind, l.many);
+                i = l.upto;
+                continue;
+            }
         }
         let o = scan_object(depth, b, &s[behind..]);
         match o {
@@ -85,7 +91,7 @@ fn scan_short(depth: usize, b: u8, c: &[u8]) -> Scanned
     ensures { λ r. ⌜ asObject (1 + length (now (c .entry))) r ≡ answerObject (shortObject depth b (now (c .entry))) ⌝ }
 {
     let n = c.len();
-    if b == 0xc6 {
+    if is_string(b) {
         return Scanned::Accepted(one_of(STRING, n + 1, 0));
     }
     if all_chars(c) {

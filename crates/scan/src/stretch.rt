@@ -2,14 +2,18 @@
 ghost use mathlib.Core.Path.{_≡_};
 ghost use mathlib.Core.Bool.{true};
 ghost use Prim.Native.Nat.{_+_, _≤_, _<_};
-ghost use lib.ListN.{length};
+ghost use lib.ListN.{length, getD};
 ghost use Rattle.format.specs.Objects.{following};
 ghost use Rattle.wire.specs.Ranges.{Between};
 ghost use Rattle.scan.specs.Stretch.{Counted, Leapt};
+use super::summary::BOOL;
 use super::summary::CHAR;
+use super::summary::EMPTY;
 use super::summary::INT;
+use super::summary::XTRA;
+use format::Class;
+use format::tree::class_of;
 use wire::integer::following_of;
-use wire::late::late_row;
 use wire::padding::padding_end;
 use wire::span::until;
 
@@ -26,15 +30,10 @@ struct Ints {
     many: usize,
 }
 
-// Up to e, and no items.
-fn no_items(e: usize) -> Leap
-    ensures { λ r. ⌜ (r .upto ≡ e) × (r .many ≡ 0) ⌝ }
+fn stretch_to(upto: usize, kind: usize, many: usize) -> Leap
+    ensures { λ r. ⌜ r ≡ record { upto = upto; kind = kind; many = many } ⌝ }
 {
-    Leap {
-        upto: e,
-        kind: 0,
-        many: 0,
-    }
+    Leap { upto, kind, many }
 }
 
 // The LINTEGERs from i on that have the type-byte b, of which each has `size` bytes.
@@ -54,13 +53,12 @@ fn same_ints(s: &[u8], i: usize, b: u8, size: usize) -> Ints
     Ints { upto: e, many }
 }
 
-// How far the SINTEGERs from i on are passed: all of them where many bytes are left, else none. One byte tells where there is
-// none.
+// Where the SINTEGERs from i on end. One byte tells where there is none.
 fn smalls_end(s: &[u8], i: usize) -> usize
     requires { ⌜ i ≤ length (now s) ⌝ }
     ensures { λ r. ⌜ (i ≤ r) × (r ≤ length (now (s .entry))) × Between 0x80 0xbf i r (now (s .entry)) ⌝ }
 {
-    if s.len() - i < 64 {
+    if i == s.len() {
         return i;
     }
     let b = s[i];
@@ -70,49 +68,7 @@ fn smalls_end(s: &[u8], i: usize) -> usize
     if b > 0xbf {
         return i;
     }
-    until(s, i, 0x80, 0xbf)
-}
-
-// The integers from i on, of one byte or more, as far as they are whole. Where many bytes are left, those of one class or of one
-// type-byte are passed together.
-fn ints_from(s: &[u8], i: usize) -> Ints
-    requires { ⌜ i ≤ length (now s) ⌝ }
-    ensures { λ r. ⌜ Counted (now (s .entry)) i (r .upto) (r .many) ⌝ }
-{
-    let mut e = i;
-    let mut many: usize = 0;
-    while e < s.len() {
-        let b = s[e];
-        let left = s.len() - e;
-        if b < 0x80 {
-            return Ints { upto: e, many };
-        }
-        if b < 0xc0 {
-            let r = smalls_end(s, e + 1);
-            many += r - e;
-            e = r;
-            continue;
-        }
-        if b < 0xe0 {
-            return Ints { upto: e, many };
-        }
-        if b > 0xe7 {
-            return Ints { upto: e, many };
-        }
-        let size = 1 + following_of(b);
-        if left >= 64 {
-            let l = same_ints(s, e + size, b, size);
-            e = l.upto;
-            many += 1 + l.many;
-            continue;
-        }
-        if left < size {
-            return Ints { upto: e, many };
-        }
-        e += size;
-        many += 1;
-    }
-    Ints { upto: e, many }
+    until(s, i + 1, 0x80, 0xbf)
 }
 
 // Whether all bytes are CHAR7.
@@ -126,53 +82,40 @@ pub fn all_chars(s: &[u8]) -> bool
     until(s, 0, 0, 0x7f) == s.len()
 }
 
-// The stretch of integers that starts at i.
-fn ints_leap(s: &[u8], i: usize) -> Leap
-    requires { ⌜ i ≤ length (now s) ⌝ }
+// The LINTEGERs from i on whose type-byte is that of the first; none where it is cut short.
+fn ints_leap(s: &[u8], i: usize, b: u8) -> Leap
+    requires { ⌜ (i < length (now s)) × (b ≡ getD (now s) i 0) × (0xe0 ≤ b) × (b ≤ 0xe7) ⌝ }
     ensures { λ r. ⌜ Leapt (now (s .entry)) i r ⌝ }
 {
-    let l = ints_from(s, i);
-    Leap {
-        upto: l.upto,
-        kind: INT,
-        many: l.many,
+    let size = 1 + following_of(b);
+    if s.len() - i < size {
+        return stretch_to(i, 0, 0);
     }
+    let l = same_ints(s, i + size, b, size);
+    stretch_to(l.upto, INT, 1 + l.many)
 }
 
-// The stretch of CHAR7, integers or PADDING that starts at i, or one item of another one-byte class; of no bytes where another
-// object starts there.
+// The stretch that starts at i: objects of one class and one kind, or padding; of no bytes where another object starts there.
 pub fn leap_from(s: &[u8], i: usize) -> Leap
     requires { ⌜ i < length (now s) ⌝ }
     ensures { λ r. ⌜ Leapt (now (s .entry)) i r ⌝ }
 {
     let b = s[i];
-    if b < 0x80 {
-        let e = until(s, i, 0, 0x7f);
-        return Leap {
-            upto: e,
-            kind: CHAR,
-            many: e - i,
-        };
-    }
-    if b < 0xc0 {
-        return ints_leap(s, i);
-    }
-    if b < 0xe0 {
-        return no_items(i);
-    }
-    if b < 0xe8 {
-        return ints_leap(s, i);
-    }
-    if b < 0xf8 {
-        return no_items(i);
-    }
-    if b == 0xff {
-        return no_items(padding_end(s, i));
-    }
-    let r = late_row(b);
-    Leap {
-        upto: i + 1,
-        kind: r.kind as usize,
-        many: 1,
+    let class = class_of(b);
+    match class {
+        Class::Char7 => {
+            let e = until(s, i, 0, 0x7f);
+            stretch_to(e, CHAR, e - i)
+        }
+        Class::Sinteger => {
+            let e = smalls_end(s, i + 1);
+            stretch_to(e, INT, e - i)
+        }
+        Class::Linteger => ints_leap(s, i, b),
+        Class::Xtra => stretch_to(i + 1, XTRA, 1),
+        Class::Bool => stretch_to(i + 1, BOOL, 1),
+        Class::Empty => stretch_to(i + 1, EMPTY, 1),
+        Class::Padding => stretch_to(padding_end(s, i), 0, 0),
+        _ => stretch_to(i, 0, 0),
     }
 }

@@ -11,6 +11,12 @@ pub const BITS: usize = 2;
 
 pub const CHAR: usize = 3;
 
+pub const BOOL: usize = 4;
+
+pub const EMPTY: usize = 5;
+
+pub const XTRA: usize = 6;
+
 pub const STRUC: usize = 7;
 
 pub const EDT: usize = 8;

@@ -1,6 +1,6 @@
 -- The INT at the front of contents, found as its meaning says. Assumes nothing.
 use Prim.Native.Nat.{ℕ, suc, _+_, _-_, _%_, _≤_, _<_}
-use mathlib.Core.Path.{_≡_, refl, sym, ap, _∙_, subst}
+use mathlib.Core.Path.{_≡_, refl, sym, ap, _∙_}
 use mathlib.Core.Logic.{_≢_}
 use mathlib.Core.List.{List, _∷_}
 use native.Mathlib.Numerals.{add-one}
@@ -14,9 +14,10 @@ use Rattle.format.specs.Classes.{classOf}
 use Rattle.format.specs.Objects as O
 use Rattle.format.proofs.Choices.{ifLt-yes, ifLt-no, split}
 use Rattle.format.proofs.Parts.{rest-part}
-use Rattle.format.proofs.TypeBytes.{InClass, in-class}
+use Rattle.format.proofs.TypeBytes.{InClass}
 use Rattle.wire.specs.declared.integer.Leading.{Leading}
 use Rattle.wire.specs.declared.integer.Leading.the-variants.{Short, Found}
+use Rattle.wire.proofs.ClassCases.{of-class}
 use Rattle.wire.specs.Heads.{LeadingIs, ahead, Unpadded, lintegerAt}
 
 ahead-later : (i : ℕ) (l : O.Leading) → ahead i (O.later l) ≡ ahead (suc i) l
@@ -59,7 +60,7 @@ pub leading-small : (s : List ℕ) (i b : ℕ) (z : ℤ) → z ≡ pos (b % 64) 
     → LeadingIs s (Found z (i + 1))
 unfolding O.leadingBy ahead
 leading-small s i b z ez h eb ec u =
-    let r : InClass b C.Sinteger = subst (InClass b) (sym ec) (in-class b) in
+    let r = of-class b C.Sinteger ec in
     let e : b % 64 ≡ b - 128 = omega (arith, r .0, r .1) in
     (at-class s i b C.Sinteger h eb ec u ∙ ap (λ y. O.found y (i + 1)) (ap pos (sym e) ∙ sym ez), omega arith)
 
@@ -89,32 +90,29 @@ leading-long s i b h eb ec u =
     rw (ifLt-no (length s - (i + 1)) (O.following b), add-one i)
     ((rw (ifLt-no (length (drop (suc i) s)) (O.following b)) at e) ∙ ap (O.found (O.integer (take (O.following b) (drop (suc i) s)))) (omega arith), omega arith))
 
--- a byte that begins no integer and is no padding
-pub record Other (b : ℕ) : Type 0 where
-  pub small : b < 256
-  pub apart : 0x80 ≤ b → b < 0xc0 → ⊥
-  pub above : 0xe0 ≤ b → b < 0xe8 → ⊥
-
-no-integer : (c : Class) (b : ℕ) (s : List ℕ) (more : O.Leading) → InClass b c → Other b → b ≢ 0xff → O.leadingBy c b s more ≡ O.absent
+-- a class that is no integer's, of a byte that is no padding
+no-integer : (c : Class) (b : ℕ) (s : List ℕ) (more : O.Leading) → InClass b c → (C.Sinteger ≡ c → ⊥) → (C.Linteger ≡ c → ⊥) → b < 256 → b ≢ 0xff
+    → O.leadingBy c b s more ≡ O.absent
 unfolding O.leadingBy
-no-integer C.Char7 b s more k o p = refl
-no-integer C.Sinteger b s more k o p = absurd (o .apart (k .0) (k .1))
-no-integer C.Linteger b s more k o p = absurd (o .above (k .0) (k .1))
-no-integer C.Sbitstr b s more k o p = refl
-no-integer C.Lbitstr b s more k o p = refl
-no-integer C.String b s more k o p = refl
-no-integer C.Struc b s more k o p = refl
-no-integer C.Ustruc b s more k o p = refl
-no-integer C.Edt b s more k o p = refl
-no-integer C.Repeat b s more k o p = refl
-no-integer C.Xtra b s more k o p = refl
-no-integer C.Bool b s more k o p = refl
-no-integer C.Empty b s more k o p = refl
-no-integer C.Padding b s more k o p = let l = o .small in absurd (p (omega (arith, k)))
-no-integer C.Reserved b s more k o p = refl
+no-integer C.Char7 b s more k m l h p = refl
+no-integer C.Sinteger b s more k m l h p = absurd (m refl)
+no-integer C.Linteger b s more k m l h p = absurd (l refl)
+no-integer C.Sbitstr b s more k m l h p = refl
+no-integer C.Lbitstr b s more k m l h p = refl
+no-integer C.String b s more k m l h p = refl
+no-integer C.Struc b s more k m l h p = refl
+no-integer C.Ustruc b s more k m l h p = refl
+no-integer C.Edt b s more k m l h p = refl
+no-integer C.Repeat b s more k m l h p = refl
+no-integer C.Xtra b s more k m l h p = refl
+no-integer C.Bool b s more k m l h p = refl
+no-integer C.Empty b s more k m l h p = refl
+no-integer C.Padding b s more k m l h p = absurd (p (omega (arith, k)))
+no-integer C.Reserved b s more k m l h p = refl
 
-pub leading-other : (s : List ℕ) (i b : ℕ) → i < length s → b ≡ getD s i 0 → Other b → Unpadded s i → O.leading s ≡ O.absent
+pub leading-other : (s : List ℕ) (i b : ℕ) (c : Class) → i < length s → b ≡ getD s i 0 → c ≡ classOf b → (C.Sinteger ≡ c → ⊥) → (C.Linteger ≡ c → ⊥)
+    → b < 256 → Unpadded s i → O.leading s ≡ O.absent
 unfolding ahead
-leading-other s i b h eb o u =
-    at-class s i b (classOf b) h eb refl u
-    ∙ ap (ahead i) (no-integer (classOf b) b (drop (suc i) s) (O.leading (drop (suc i) s)) (in-class b) o (λ e. u .there h (sym eb ∙ e)))
+leading-other s i b c h eb ec m l hb u =
+    at-class s i b c h eb ec u
+    ∙ ap (ahead i) (no-integer c b (drop (suc i) s) (O.leading (drop (suc i) s)) (of-class b c ec) m l hb (λ e. u .there h (sym eb ∙ e)))

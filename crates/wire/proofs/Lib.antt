@@ -1,4 +1,5 @@
 pub mod Sizes
+pub mod ClassCases
 pub mod Integers
 pub mod Leadings
 pub mod ShortBits

@@ -1,8 +1,10 @@
 -- Objects that are one row and hold no contents: their rows, whatever stands around them. Assumes nothing.
-use Prim.Native.Nat.{ℕ, _+_, _-_, _%_, _≤_, _<_}
-use mathlib.Core.Path.{_≡_, refl, ap, _∙_}
+use Prim.Native.Nat.{ℕ, _+_, _-_, _/_, _%_, _≤_, _<_}
+use mathlib.Core.Path.{_≡_, refl, sym, ap, _∙_}
+use mathlib.Core.Bool.{true, false}
 use mathlib.Core.List.{List}
 use native.Mathlib.Omega.{arith}
+use lib.Dec.{eqb}
 use lib.ListN.{length, take}
 use Rattle.format.specs.declared.Class.{Class}
 use Rattle.format.specs.declared.Class.the-variants as C
@@ -10,9 +12,10 @@ use Rattle.format.specs.Numbers.{twos}
 use Rattle.format.specs.Items.{Leaf, one}
 use Rattle.format.specs.Classes.{classOf}
 use Rattle.format.specs.Objects as O
-use Rattle.format.proofs.Choices.{each, split, ifLt-yes, ifLt-no}
+use Rattle.format.proofs.Choices.{each, eq-true, eq-false}
 use Rattle.format.proofs.TypeBytes.{char-class, small-class, xtra-class}
-use Rattle.wire.specs.Heads.{IsRow, RowAt, lateKind, lateValue}
+use Rattle.wire.specs.Heads.{IsRow, RowAt}
+use Rattle.wire.proofs.ClassCases.{of-class}
 use Rattle.wire.proofs.HeadLaws.{char-row, sinteger-row, xtra-row, bool-row, empty-row, linteger-leaf, linteger-head, linteger-is}
 
 -- the item that an accepted class gives is the same at every depth
@@ -24,7 +27,7 @@ pub char-at : (b : ℕ) (s : List ℕ) → b < 0x80 → RowAt b s 3 b 0
 unfolding O.headBy
 char-at b s h = let r = char-row 0 b s in at-class C.Char7 b s 3 b 0 (char-class b h) (r .0) (λ d. r .1) (r .2)
 
-pub small-class-at : (b : ℕ) → 0x80 ≤ b → b < 0xc0 → classOf b ≡ C.Sinteger
+small-class-at : (b : ℕ) → 0x80 ≤ b → b < 0xc0 → classOf b ≡ C.Sinteger
 small-class-at b g h = let e : 0x80 + (b - 0x80) ≡ b = omega arith in rw e at (small-class (b - 0x80) (omega arith))
 
 pub small-at : (b : ℕ) (s : List ℕ) → 0x80 ≤ b → b < 0xc0 → RowAt b s 1 (b % 64) 0
@@ -37,46 +40,35 @@ long-class : (n : ℕ) → n < 8 → classOf (0xe0 + n) ≡ C.Linteger
 unfolding classOf
 long-class n h = each (λ k. classOf (0xe0 + k) ≡ C.Linteger) 8 (refl, (refl, (refl, (refl, (refl, (refl, (refl, (refl, tt)))))))) n h
 
-pub long-class-at : (b : ℕ) → 0xe0 ≤ b → b < 0xe8 → classOf b ≡ C.Linteger
+long-class-at : (b : ℕ) → 0xe0 ≤ b → b < 0xe8 → classOf b ≡ C.Linteger
 long-class-at b g h = let e : 0xe0 + (b - 0xe0) ≡ b = omega arith in rw e at (long-class (b - 0xe0) (omega arith))
 
-pub marked-class-at : (b : ℕ) → 0xf0 ≤ b → b < 0xf8 → classOf b ≡ C.Sbitstr
-unfolding classOf
-marked-class-at b g h =
-    let e : 0xf0 + (b - 0xf0) ≡ b = omega arith in
-    rw e at (each (λ k. classOf (0xf0 + k) ≡ C.Sbitstr) 8 (refl, (refl, (refl, (refl, (refl, (refl, (refl, (refl, tt)))))))) (b - 0xf0) (omega arith))
+-- told by its high five bits
+pub long-told : (b : ℕ) → C.Linteger ≡ classOf b → true ≡ eqb (b / 8) 0x1c
+long-told b e = let r = of-class b C.Linteger e in let q : b / 8 ≡ 0x1c = omega (arith, r .0, r .1) in sym (eq-true (b / 8) 0x1c q)
+
+pub long-not : (r : Class) (b : ℕ) → (C.Linteger ≡ r → ⊥) → r ≡ classOf b → false ≡ eqb (b / 8) 0x1c
+long-not r b n e = sym (eq-false (b / 8) 0x1c (λ q. n (sym (e ∙ long-class-at b (omega arith) (omega arith)))))
 
 -- an LINTEGER whose bytes are there
 pub long-at : (b k v : ℕ) (s : List ℕ) → 0xe0 ≤ b → b ≤ 0xe7 → k ≡ O.following b → k ≤ length s → v ≡ twos 8 (O.integer (take k s)) → RowAt b s 1 v k
 long-at b k v s g h ek l ev =
     at-class C.Linteger b s 1 v k (long-class-at b g (omega arith)) (linteger-leaf k s) (λ d. linteger-head d b k s ek l) (linteger-is k v s ev)
 
-xtra-at : (b : ℕ) (s : List ℕ) → 0xf8 ≤ b → b < 0xfc → RowAt b s 6 (b % 4) 0
+pub xtra-at : (b : ℕ) (s : List ℕ) → 0xf8 ≤ b → b < 0xfc → RowAt b s 6 (b % 4) 0
 unfolding O.headBy
 xtra-at b s g h =
     let e : 0xf8 + (b - 0xf8) ≡ b = omega arith in
     let r = xtra-row 0 b s (g, h) in
     at-class C.Xtra b s 6 (b % 4) 0 (rw e at (xtra-class (b - 0xf8) (omega arith))) (r .0) (λ d. r .1) (r .2)
 
-bool-at : (b : ℕ) (s : List ℕ) → 0xfc ≤ b → b < 0xfe → RowAt b s 4 (b % 2) 0
+pub bool-at : (b : ℕ) (s : List ℕ) → 0xfc ≤ b → b < 0xfe → RowAt b s 4 (b % 2) 0
 unfolding O.headBy classOf
 bool-at b s g h =
     let e : 0xfc + (b - 0xfc) ≡ b = omega arith in
     let r = bool-row 0 b s (g, h) in
     at-class C.Bool b s 4 (b % 2) 0 (rw e at (each (λ k. classOf (0xfc + k) ≡ C.Bool) 2 (refl, (refl, tt)) (b - 0xfc) (omega arith))) (r .0) (λ d. r .1) (r .2)
 
-empty-at : (b : ℕ) (s : List ℕ) → b ≡ 0xfe → RowAt b s 5 0 0
+pub empty-at : (b : ℕ) (s : List ℕ) → b ≡ 0xfe → RowAt b s 5 0 0
 unfolding O.headBy classOf
 empty-at b s e = let r = empty-row 0 b s in at-class C.Empty b s 5 0 0 (ap classOf e) (r .0) (λ d. r .1) (r .2)
-
--- a one-byte item from F8 to FE
-pub late-at : (b : ℕ) (s : List ℕ) → 0xf8 ≤ b → b < 0xff → RowAt b s (lateKind b) (lateValue b) 0
-unfolding lateKind lateValue
-late-at b s g h =
-    split b 0xfc
-    (λ l. rw (ifLt-yes {X = ℕ} b 0xfc 6, ifLt-yes {X = ℕ} b 0xfc (b % 4)) (xtra-at b s g l))
-    (λ m.
-    rw (ifLt-no {X = ℕ} b 0xfc 6, ifLt-no {X = ℕ} b 0xfc (b % 4))
-    (split b 0xfe
-    (λ l. rw (ifLt-yes {X = ℕ} b 0xfe 4, ifLt-yes {X = ℕ} b 0xfe (b % 2)) (bool-at b s m l))
-    (λ n. rw (ifLt-no {X = ℕ} b 0xfe 4, ifLt-no {X = ℕ} b 0xfe (b % 2)) (empty-at b s (omega arith)))))

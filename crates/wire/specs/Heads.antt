@@ -1,5 +1,5 @@
 -- What the code's answers about one object say of its meaning.
-use Prim.Native.Nat.{ℕ, _+_, _-_, _%_, _^_, _≤_, _<_}
+use Prim.Native.Nat.{ℕ, _+_, _-_, _^_, _≤_, _<_}
 use mathlib.Core.Path.{_≡_}
 use mathlib.Core.Logic.{_≢_}
 use mathlib.Core.Bool.{Bool}
@@ -72,15 +72,6 @@ pub record IsRow (l : Leaf) (k v : ℕ) : Type 0 where
   pub last : (d : ℕ) → leafB d l ≡ v
   pub none : leafWords l ≡ []
 
--- the row of a one-byte item from F8 to FE
-unfoldable pub lateKind : ℕ → ℕ
-unfolding ifLt
-lateKind b = ifLt b 0xfc 6 (ifLt b 0xfe 4 5)
-
-unfoldable pub lateValue : ℕ → ℕ
-unfolding ifLt
-lateValue b = ifLt b 0xfc (b % 4) (ifLt b 0xfe (b % 2) 0)
-
 -- an object of the type-byte b is one item with such a row, and has u bytes past the type-byte, however deep it stands
 pub record RowAt (b : ℕ) (s : List ℕ) (k v u : ℕ) : Type 0 where
   pub leaf : Leaf
@@ -110,7 +101,7 @@ HeadIs s (Open w a n) h = (h ≡ O.opens (wrapOf w) a n) × (a + n ≤ length s)
 -- how a container closes by its type-byte C2, C5 or C3
 unfoldable pub shortWrap : ℕ → O.Wrap
 unfolding ifEq
-shortWrap b = ifEq b 0xc2 O.as-struc (ifEq b 0xc5 O.as-ustruc O.as-edt)
+shortWrap b = ifEq b 0xc3 O.as-edt (ifEq b 0xc5 O.as-ustruc O.as-struc)
 
 -- the head of a container or a string whose size is the one byte n
 unfoldable pub shortHead : ℕ → List ℕ → ℕ → O.Head

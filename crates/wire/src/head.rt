@@ -2,10 +2,9 @@
 // behind it, up to the end of the enclosing object or of the input. `depth` containers stand around it.
 ghost use mathlib.Core.Path.{_≡_};
 ghost use Prim.Native.Nat.{_+_, _*_, _%_, _^_, _≤_, _<_, _-_};
-ghost use lib.ListN.{length, take, drop};
+ghost use lib.ListN.{length};
 ghost use Rattle.format.specs.declared.Class.the-variants.{Linteger, Sbitstr, Lbitstr, String, Repeat};
-ghost use Rattle.format.specs.Classes.{classOf};
-ghost use Rattle.format.specs.Objects.{past, following, headBy, headOf, groupHead};
+ghost use Rattle.format.specs.Objects.{past, headBy, headOf, groupHead};
 ghost use Rattle.wire.specs.Heads.{CountedIs, ContainedIs, HeadIs, wrapOf, longBits};
 use super::integer::Leading;
 use super::integer::following_of;
@@ -15,8 +14,9 @@ use super::integer::number;
 use super::size::Extent;
 use super::size::extent_of;
 use format::Class;
-use format::class_of;
 use format::signed::word_of;
+use format::tree::class_of;
+use format::tree::ones_of;
 
 // How a container closes over its contents.
 pub enum Wrap {
@@ -83,6 +83,7 @@ fn short_word(v: u64, n: usize) -> u64
     v << (64 - n)
 }
 
+// The zeros before the marker are the ones of the complement.
 fn sbitstr(depth: usize, b: u8, s: &[u8]) -> Head
     ensures { λ r. ⌜ HeadIs (now (s .entry)) r (headBy Sbitstr depth b (now (s .entry))) ⌝ }
 {
@@ -94,7 +95,7 @@ fn sbitstr(depth: usize, b: u8, s: &[u8]) -> Head
     if first == 0 {
         return Head::Stop(6, 0);
     }
-    let zeros = u8::leading_zeros(first) as usize;
+    let zeros = ones_of(!first) as usize;
     let n = 8 * k - 1 - zeros;
     Head::Short(n, short_word(number(s, k), n), k)
 }
@@ -203,28 +204,11 @@ fn repeat(depth: usize, s: &[u8]) -> Head
     }
 }
 
-// The class of a type-byte. Bit strings and repeats are told by their bytes alone, the others by the list of 256: the compiler
-// lays the list out anew each time that it is asked.
-fn told_class(b: u8) -> Class
-    ensures { λ r. ⌜ r ≡ classOf b ⌝ }
-{
-    if b == 0xc1 {
-        return Class::Lbitstr;
-    }
-    if b == 0xc4 {
-        return Class::Repeat;
-    }
-    if b / 8 == 30 {
-        return Class::Sbitstr;
-    }
-    class_of(b)
-}
-
 pub fn head_of(depth: usize, b: u8, s: &[u8]) -> Head
     requires { ⌜ length (now s) ≤ 65536 ⌝ }
     ensures { λ r. ⌜ HeadIs (now (s .entry)) r (headOf depth b (now (s .entry))) ⌝ }
 {
-    let class = told_class(b);
+    let class = class_of(b);
     match class {
         Class::Char7 => Head::Row(3, b as u64, 0),
         Class::Sinteger => Head::Row(1, (b % 64) as u64, 0),

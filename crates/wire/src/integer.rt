@@ -1,12 +1,15 @@
 // LINTEGER values, and the INT at the front of an LBITSTR's or a REPEAT's contents.
 ghost use mathlib.Core.Path.{_≡_};
 ghost use Prim.Native.Nat.{_+_, _-_, _*_, _/_, _^_, _≤_, _<_};
-ghost use lib.ListN.{length, take, drop};
+ghost use lib.Dec.{eqb};
+ghost use lib.ListN.{length, take};
 ghost use Rattle.format.specs.Numbers.{val, signed};
 ghost use Rattle.format.specs.Objects.{following, integer};
 ghost use Rattle.wire.specs.Heads.{LeadingIs, Unpadded, lintegerAt};
 ghost use Rattle.wire.specs.WordsAt.{wordAt};
+use format::Class;
 use format::signed::value_of;
+use format::tree::class_of;
 
 // The INT at the front of contents. Short: cut short at that place. Found: its value, and the bytes up to its end.
 pub enum Leading {
@@ -19,6 +22,17 @@ fn wide(x: u8) -> u64
     ensures { λ r. ⌜ (r ≡ x) × (r < 256) ⌝ }
 {
     x as u64
+}
+
+// Whether a type-byte is an LINTEGER's.
+pub fn is_linteger(b: u8) -> bool
+    ensures { λ r. ⌜ r ≡ eqb (b / 8) 0x1c ⌝ }
+{
+    let class = class_of(b);
+    match class {
+        Class::Linteger => true,
+        _ => false,
+    }
 }
 
 // The data bytes that a type-byte E0-E7 or F0-F7 asks for.
@@ -127,17 +141,10 @@ pub fn leading_of(s: &[u8]) -> Leading
         return Leading::Absent;
     }
     let b = s[i];
-    if b < 0x80 {
-        return Leading::Absent;
+    let class = class_of(b);
+    match class {
+        Class::Sinteger => Leading::Found((b % 64) as i64, i + 1),
+        Class::Linteger => linteger_at(s, i, b),
+        _ => Leading::Absent,
     }
-    if b < 0xc0 {
-        return Leading::Found((b % 64) as i64, i + 1);
-    }
-    if b < 0xe0 {
-        return Leading::Absent;
-    }
-    if b < 0xe8 {
-        return linteger_at(s, i, b);
-    }
-    Leading::Absent
 }

@@ -1,7 +1,6 @@
 // What stands at one object's type-byte, read from the bytes. Nothing here goes into contents.
 pub mod head;
 pub mod integer;
-pub mod late;
 pub mod padding;
 pub mod short;
 pub mod size;

@@ -11,16 +11,16 @@ const AMPLE_WORDS: usize = 65_540;
 const AMPLE_BYTES: usize = 65_536;
 
 /// All the vectors, and how many of them have each key.
-const ALL: usize = 655;
+const ALL: usize = 681;
 const KEYS: [(&str, usize); 11] = [
-    ("message", 533),
+    ("message", 559),
     ("lent", 13),
-    ("read", 533),
+    ("read", 559),
     ("items", 185),
-    ("table", 202),
+    ("table", 223),
     ("room", 19),
     ("normalise", 13),
-    ("normal", 234),
+    ("normal", 255),
     ("list", 25),
     ("write", 122),
     ("bytes", 23),

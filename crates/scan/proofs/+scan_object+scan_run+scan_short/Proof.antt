@@ -12,6 +12,7 @@ use Rattle.scan.specs.declared.Scanned.the-variants.{Refused}
 use Rattle.scan.specs.Answer.{answer}
 use Rattle.scan.proofs.Turns.{Inv, inv-start, inv-end, leap-turn, bad-turn, got-turn}
 use Rattle.scan.proofs.ObjectCases.{stop-is, gap-is, row-is, short-few, short-is, long-few, long-is, text-fits, text-is, open-fits, open-place, open-refused, open-accepted}
+use borrow.Author.Tests.{eqb-true, eqb-false}
 use borrow.Fn.Kinds.{In}
 use borrow.Fn.PlainCycle.{Measures, is, falls, and}
 use Rattle.scan.proofs.scan_object.Reads as scan-object
@@ -35,7 +36,9 @@ use Rattle.scan.proofs.summary.nothing.Reads as nothing-reads
 use Rattle.scan.proofs.summary.one_of.Reads as one-of-reads
 use Rattle.scan.proofs.summary.plus.Reads as plus-reads
 use Rattle.scan.proofs.summary.plus_many.Reads as plus-many-reads
+use Rattle.format.proofs.tree.is_non_atomic.Reads as is-non-atomic-reads
 use Rattle.wire.proofs.head.head_of.Reads as head-of-reads
+use Rattle.wire.proofs.short.is_string.Reads as is-string-reads
 use Rattle.wire.proofs.short.short_size.Reads as short-size-reads
 use Rattle.scan.proofs.+scan_object+scan_run+scan_short.{statement}
 use Rattle.scan.proofs.+scan_object+scan_run+scan_short.Tie.{close}
@@ -95,6 +98,8 @@ abbrev scan-run-claims : ℕ → scan-run-lts.Claims
 scan-run-claims t = (
   nothing-reads.Asked,
   nothing-reads.Learnt,
+  is-non-atomic-reads.Asked,
+  is-non-atomic-reads.Learnt,
   short-size-reads.Asked,
   short-size-reads.Learnt,
   scan-short-below t,
@@ -111,6 +116,8 @@ scan-run-claims t = (
 
 abbrev scan-short-claims : ℕ → scan-short-lts.Claims
 scan-short-claims t = (
+  is-string-reads.Asked,
+  is-string-reads.Learnt,
   one-of-reads.Asked,
   one-of-reads.Learnt,
   all-chars-reads.Asked,
@@ -283,6 +290,9 @@ scan-run-shared-slice-read-b t c = search needs
 scan-run-add-behind : (t : ℕ) → scan-run-lts.Need-add-behind (scan-run-claims t) (scan-run-at t) scan-run.Post scan-run-Inv-loop scan-run-μ-loop
 scan-run-add-behind t c = search needs
 
+scan-run-is-non-atomic-requires : (t : ℕ) → scan-run-lts.Need-is-non-atomic-requires (scan-run-claims t) (scan-run-at t) scan-run.Post scan-run-Inv-loop scan-run-μ-loop
+scan-run-is-non-atomic-requires t c κs = search needs
+
 scan-run-sub-short-size : (t : ℕ) → scan-run-lts.Need-sub-short-size (scan-run-claims t) (scan-run-at t) scan-run.Post scan-run-Inv-loop scan-run-μ-loop
 scan-run-sub-short-size t c = search needs
 
@@ -296,13 +306,13 @@ scan-run-short-size-requires : (t : ℕ) → scan-run-lts.Need-short-size-requir
 scan-run-short-size-requires t c κs = search needs
 
 -- a short container or string that is found lies within the bytes, which are not too many
-found : (t : ℕ) (c : scan-run-lts.Then1 (scan-run-claims t) (scan-run-at t) scan-run.Post scan-run-Inv-loop scan-run-μ-loop)
-    → ShortAt (c .before .before .before .before .before .before .before .before .args .depth) (getD (c .before .before .before .before .before .before .before .before .args .s .now) (c .before .before .before .before .before .loop .i) 0) (take (length (c .before .before .before .before .before .before .before .before .args .s .now) - (c .before .before .before .before .before .loop .i + 1)) (drop (c .before .before .before .before .before .loop .i + 1) (c .before .before .before .before .before .before .before .before .args .s .now))) (c .before .short-size .result)
-found t c = c .before .short-size .ensures (c .if1 .taken)
+found : (t : ℕ) (c : scan-run-lts.Then2 (scan-run-claims t) (scan-run-at t) scan-run.Post scan-run-Inv-loop scan-run-μ-loop)
+    → ShortAt (c .before .before .before .before .before .before .before .before .before .before .args .depth) (getD (c .before .before .before .before .before .before .before .before .before .before .args .s .now) (c .before .before .before .before .before .before .before .loop .i) 0) (take (length (c .before .before .before .before .before .before .before .before .before .before .args .s .now) - (c .before .before .before .before .before .before .before .loop .i + 1)) (drop (c .before .before .before .before .before .before .before .loop .i + 1) (c .before .before .before .before .before .before .before .before .before .before .args .s .now))) (c .before .short-size .result)
+found t c = c .before .short-size .ensures (c .if2 .taken)
 
-fits : (t : ℕ) (c : scan-run-lts.Then1 (scan-run-claims t) (scan-run-at t) scan-run.Post scan-run-Inv-loop scan-run-μ-loop)
-    → (c .before .before .before .before .before .loop .i + 2 + c .before .short-size .result ≤ length (c .before .before .before .before .before .before .before .before .args .s .now)) × (length (c .before .before .before .before .before .before .before .before .args .s .now) ≤ 65536)
-fits t c = (short-fits _ (c .before .before .before .before .before .before .before .before .args .s .now) _ _ (c .before .before .before .before .loop-test .taken) (found t c), c .before .before .before .before .before .before .before .before .pre .1 .0)
+fits : (t : ℕ) (c : scan-run-lts.Then2 (scan-run-claims t) (scan-run-at t) scan-run.Post scan-run-Inv-loop scan-run-μ-loop)
+    → (c .before .before .before .before .before .before .before .loop .i + 2 + c .before .short-size .result ≤ length (c .before .before .before .before .before .before .before .before .before .before .args .s .now)) × (length (c .before .before .before .before .before .before .before .before .before .before .args .s .now) ≤ 65536)
+fits t c = (short-fits _ (c .before .before .before .before .before .before .before .before .before .before .args .s .now) _ _ (c .before .before .before .before .before .before .loop-test .taken) (found t c), c .before .before .before .before .before .before .before .before .before .before .pre .1 .0)
 
 scan-run-add-end : (t : ℕ) → scan-run-lts.Need-add-end (scan-run-claims t) (scan-run-at t) scan-run.Post scan-run-Inv-loop scan-run-μ-loop
 scan-run-add-end t c = let f = fits t c in omega arith
@@ -326,21 +336,21 @@ scan-run-scan-short-requires : (t : ℕ) → scan-run-lts.Need-scan-short-requir
 scan-run-scan-short-requires t c κs =
     let f = fits t (c .before) in
     let a = found t (c .before) in
-    let l = short-size _ (c .before .before .before .before .before .before .before .before .before .args .s .now) _ _ (c .before .before .before .before .before .loop-test .taken) a in
-    (omega (arith, l, c .before .before .before .before .before .before .before .before .before .pre .0), (omega (arith, l, c .before .if1 .taken), omega (arith, l, a .few), a .shallow))
+    let l = short-size _ (c .before .before .before .before .before .before .before .before .before .before .before .args .s .now) _ _ (c .before .before .before .before .before .before .before .loop-test .taken) a in
+    (omega (arith, l, c .before .before .before .before .before .before .before .before .before .before .before .pre .0), (omega (arith, l, c .before .if2 .taken), omega (arith, l, a .few), a .shallow))
 
 scan-run-enum-known-r : (t : ℕ) → scan-run-lts.Need-enum-known-r (scan-run-claims t) (scan-run-at t) scan-run.Post scan-run-Inv-loop scan-run-μ-loop
 scan-run-enum-known-r t c = search needs
 
 -- the place at which it is refused lies within the bytes, and is the run's
 refused-short : (t : ℕ) (c : scan-run-lts.After-known-told (scan-run-claims t) (scan-run-at t) scan-run.Post scan-run-Inv-loop scan-run-μ-loop)
-    → (c .before .before .before .before .before .before .before .before .before .before .loop .i + c .before .r .given .0 .1 .0 < length (c .before .before .before .before .before .before .before .before .before .before .before .before .before .args .s .now))
-    × (Refused (c .before .r .given .0 .0) (c .before .before .before .before .before .before .before .before .before .before .loop .i + c .before .r .given .0 .1 .0) ≡ answer (reads (c .before .before .before .before .before .before .before .before .before .before .before .before .before .args .depth) (c .before .before .before .before .before .before .before .before .before .before .before .before .before .args .s .now)))
+    → (c .before .before .before .before .before .before .before .before .before .before .before .before .loop .i + c .before .r .given .0 .1 .0 < length (c .before .before .before .before .before .before .before .before .before .before .before .before .before .before .before .args .s .now))
+    × (Refused (c .before .r .given .0 .0) (c .before .before .before .before .before .before .before .before .before .before .before .before .loop .i + c .before .r .given .0 .1 .0) ≡ answer (reads (c .before .before .before .before .before .before .before .before .before .before .before .before .before .before .before .args .depth) (c .before .before .before .before .before .before .before .before .before .before .before .before .before .before .before .args .s .now)))
 refused-short t c =
-    bad-short _ _ _ _ (c .before .before .before .before .before .before .before .before .before .loop-test .taken) (found t (c .before .before .before .before .before)) _ (c .before .before .before .before .before .before .before .before .before .before .loop .inv) _ _ _ (c .before .r .given .1) (c .before .before .before .scan-short .ensures)
+    bad-short _ _ _ _ (c .before .before .before .before .before .before .before .before .before .before .before .loop-test .taken) (found t (c .before .before .before .before .before)) _ (c .before .before .before .before .before .before .before .before .before .before .before .before .loop .inv) _ _ _ (c .before .r .given .1) (c .before .before .before .scan-short .ensures)
 
-scan-run-add-t31 : (t : ℕ) → scan-run-lts.Need-add-t31 (scan-run-claims t) (scan-run-at t) scan-run.Post scan-run-Inv-loop scan-run-μ-loop
-scan-run-add-t31 t c = let q = refused-short t c in omega (arith, c .before .before .before .before .before .before .before .before .before .before .before .before .before .pre .1 .0)
+scan-run-add-t34 : (t : ℕ) → scan-run-lts.Need-add-t34 (scan-run-claims t) (scan-run-at t) scan-run.Post scan-run-Inv-loop scan-run-μ-loop
+scan-run-add-t34 t c = let q = refused-short t c in omega (arith, c .before .before .before .before .before .before .before .before .before .before .before .before .before .before .before .pre .1 .0)
 
 scan-run-returns : (t : ℕ) → scan-run-lts.Need-returns (scan-run-claims t) (scan-run-at t) scan-run.Post scan-run-Inv-loop scan-run-μ-loop
 scan-run-returns t c = refused-short t c .1
@@ -356,7 +366,7 @@ scan-run-loop-less t c = let f = fits t (c .before .before .before .before .befo
 
 scan-run-loop-again : (t : ℕ) → scan-run-lts.Need-loop-again (scan-run-claims t) (scan-run-at t) scan-run.Post scan-run-Inv-loop scan-run-μ-loop
 scan-run-loop-again t c =
-    got-short _ _ _ _ (c .before .before .before .before .before .before .before .before .before .before .loop-test .taken) (found t (c .before .before .before .before .before .before)) _ (c .before .before .before .before .before .before .before .before .before .before .before .loop .inv) _ _ (c .before .before .r2 .given .1) (c .before .before .before .before .scan-short .ensures) _ (c .plus .ensures)
+    got-short _ _ _ _ (c .before .before .before .before .before .before .before .before .before .before .before .before .loop-test .taken) (found t (c .before .before .before .before .before .before)) _ (c .before .before .before .before .before .before .before .before .before .before .before .before .before .loop .inv) _ _ (c .before .before .r2 .given .1) (c .before .before .before .before .scan-short .ensures) _ (c .plus .ensures)
 
 scan-run-leap-from-requires : (t : ℕ) → scan-run-lts.Need-leap-from-requires (scan-run-claims t) (scan-run-at t) scan-run.Post scan-run-Inv-loop scan-run-μ-loop
 scan-run-leap-from-requires t c κs = search needs
@@ -368,7 +378,7 @@ scan-run-loop-less-2 : (t : ℕ) → scan-run-lts.Need-loop-less-2 (scan-run-cla
 scan-run-loop-less-2 t c = let l = c .before .before .before .leap-from .ensures in omega arith
 
 scan-run-loop-again-2 : (t : ℕ) → scan-run-lts.Need-loop-again-2 (scan-run-claims t) (scan-run-at t) scan-run.Post scan-run-Inv-loop scan-run-μ-loop
-scan-run-loop-again-2 t c = leap-turn _ _ _ _ (c .before .before .before .before .before .before .before .before .before .loop .inv) _ (c .before .before .before .leap-from .ensures) _ (c .plus-many .ensures)
+scan-run-loop-again-2 t c = leap-turn _ _ _ _ (c .before .before .before .before .before .before .before .before .loop .inv) _ (c .before .before .before .leap-from .ensures) _ (c .plus-many .ensures)
 
 scan-run-sub-scan-object : (t : ℕ) → scan-run-lts.Need-sub-scan-object (scan-run-claims t) (scan-run-at t) scan-run.Post scan-run-Inv-loop scan-run-μ-loop
 scan-run-sub-scan-object t c = search needs
@@ -381,7 +391,7 @@ scan-run-part-scan-object-end t c = search needs
 
 scan-run-scan-object-requires : (t : ℕ) → scan-run-lts.Need-scan-object-requires (scan-run-claims t) (scan-run-at t) scan-run.Post scan-run-Inv-loop scan-run-μ-loop
 scan-run-scan-object-requires t c κs =
-    let p = c .before .before .before .before .before .before .before .before .before .before .before .before .pre in
+    let p = c .before .before .before .before .before .before .before .before .pre in
     (simp (length-take, length-drop) (omega (arith, p .0)), (simp (length-take, length-drop) (omega (arith, p .1 .0)), p .1 .1))
 
 scan-run-enum-known-o : (t : ℕ) → scan-run-lts.Need-enum-known-o (scan-run-claims t) (scan-run-at t) scan-run.Post scan-run-Inv-loop scan-run-μ-loop
@@ -389,13 +399,13 @@ scan-run-enum-known-o t c = search needs
 
 -- a refused object's place lies within the bytes, and is the run's
 refused : (t : ℕ) (c : scan-run-lts.After-known-told3 (scan-run-claims t) (scan-run-at t) scan-run.Post scan-run-Inv-loop scan-run-μ-loop)
-    → (c .before .before .before .before .before .before .before .before .before .before .before .before .before .loop .i + c .before .o .given .0 .1 .0 < length (c .before .before .before .before .before .before .before .before .before .before .before .before .before .before .before .before .args .s .now))
-    × (Refused (c .before .o .given .0 .0) (c .before .before .before .before .before .before .before .before .before .before .before .before .before .loop .i + c .before .o .given .0 .1 .0) ≡ answer (reads (c .before .before .before .before .before .before .before .before .before .before .before .before .before .before .before .before .args .depth) (c .before .before .before .before .before .before .before .before .before .before .before .before .before .before .before .before .args .s .now)))
+    → (c .before .before .before .before .before .before .before .before .before .loop .i + c .before .o .given .0 .1 .0 < length (c .before .before .before .before .before .before .before .before .before .before .before .before .args .s .now))
+    × (Refused (c .before .o .given .0 .0) (c .before .before .before .before .before .before .before .before .before .loop .i + c .before .o .given .0 .1 .0) ≡ answer (reads (c .before .before .before .before .before .before .before .before .before .before .before .before .args .depth) (c .before .before .before .before .before .before .before .before .before .before .before .before .args .s .now)))
 refused t c =
-    bad-turn _ _ _ _ (c .before .before .before .before .before .before .before .before .before .before .before .before .before .loop .inv) (c .before .before .before .before .before .before .before .before .before .before .before .before .loop-test .taken) _ _ (sym (c .before .o .given .1) ∙ c .before .before .before .scan-object .ensures)
+    bad-turn _ _ _ _ (c .before .before .before .before .before .before .before .before .before .loop .inv) (c .before .before .before .before .before .before .before .before .loop-test .taken) _ _ (sym (c .before .o .given .1) ∙ c .before .before .before .scan-object .ensures)
 
-scan-run-add-t35 : (t : ℕ) → scan-run-lts.Need-add-t35 (scan-run-claims t) (scan-run-at t) scan-run.Post scan-run-Inv-loop scan-run-μ-loop
-scan-run-add-t35 t c = let q = refused t c in omega (arith, c .before .before .before .before .before .before .before .before .before .before .before .before .before .before .before .before .pre .1 .0)
+scan-run-add-t39 : (t : ℕ) → scan-run-lts.Need-add-t39 (scan-run-claims t) (scan-run-at t) scan-run.Post scan-run-Inv-loop scan-run-μ-loop
+scan-run-add-t39 t c = let q = refused t c in omega (arith, c .before .before .before .before .before .before .before .before .before .before .before .before .pre .1 .0)
 
 scan-run-returns-2 : (t : ℕ) → scan-run-lts.Need-returns-2 (scan-run-claims t) (scan-run-at t) scan-run.Post scan-run-Inv-loop scan-run-μ-loop
 scan-run-returns-2 t c = refused t c .1
@@ -408,17 +418,17 @@ scan-run-plus-requires-2 t c κs = search needs
 
 -- another object's end lies within the bytes, and the invariant holds there
 passed : (t : ℕ) (c : scan-run-lts.After-plus2 (scan-run-claims t) (scan-run-at t) scan-run.Post scan-run-Inv-loop scan-run-μ-loop)
-    → (c .before .before .before .before .before .before .before .before .before .before .before .before .before .before .loop .i + (1 + c .before .before .o2 .given .0 .1 .0) ≤ length (c .before .before .before .before .before .before .before .before .before .before .before .before .before .before .before .before .before .args .s .now))
-    × Inv (c .before .before .before .before .before .before .before .before .before .before .before .before .before .before .before .before .before .args .depth) (c .before .before .before .before .before .before .before .before .before .before .before .before .before .before .before .before .before .args .s .now) (c .before .before .before .before .before .before .before .before .before .before .before .before .before .before .loop .i + (1 + c .before .before .o2 .given .0 .1 .0)) (c .plus2 .result)
+    → (c .before .before .before .before .before .before .before .before .before .before .loop .i + (1 + c .before .before .o2 .given .0 .1 .0) ≤ length (c .before .before .before .before .before .before .before .before .before .before .before .before .before .args .s .now))
+    × Inv (c .before .before .before .before .before .before .before .before .before .before .before .before .before .args .depth) (c .before .before .before .before .before .before .before .before .before .before .before .before .before .args .s .now) (c .before .before .before .before .before .before .before .before .before .before .loop .i + (1 + c .before .before .o2 .given .0 .1 .0)) (c .plus2 .result)
 passed t c =
-    got-turn _ _ _ _ (c .before .before .before .before .before .before .before .before .before .before .before .before .before .before .loop .inv) (c .before .before .before .before .before .before .before .before .before .before .before .before .before .loop-test .taken) _ _ (sym (c .before .before .o2 .given .1) ∙ c .before .before .before .before .scan-object .ensures) _
+    got-turn _ _ _ _ (c .before .before .before .before .before .before .before .before .before .before .loop .inv) (c .before .before .before .before .before .before .before .before .before .loop-test .taken) _ _ (sym (c .before .before .o2 .given .1) ∙ c .before .before .before .before .scan-object .ensures) _
     (c .plus2 .ensures)
 
 scan-run-add-i : (t : ℕ) → scan-run-lts.Need-add-i (scan-run-claims t) (scan-run-at t) scan-run.Post scan-run-Inv-loop scan-run-μ-loop
-scan-run-add-i t c = let q = passed t c in omega (arith, c .before .before .before .before .before .before .before .before .before .before .before .before .before .before .before .before .before .pre .1 .0)
+scan-run-add-i t c = let q = passed t c in omega (arith, c .before .before .before .before .before .before .before .before .before .before .before .before .before .pre .1 .0)
 
 scan-run-add-i-2 : (t : ℕ) → scan-run-lts.Need-add-i-2 (scan-run-claims t) (scan-run-at t) scan-run.Post scan-run-Inv-loop scan-run-μ-loop
-scan-run-add-i-2 t c = let q = passed t c in omega (arith, c .before .before .before .before .before .before .before .before .before .before .before .before .before .before .before .before .before .pre .1 .0)
+scan-run-add-i-2 t c = let q = passed t c in omega (arith, c .before .before .before .before .before .before .before .before .before .before .before .before .before .pre .1 .0)
 
 scan-run-loop-less-3 : (t : ℕ) → scan-run-lts.Need-loop-less-3 (scan-run-claims t) (scan-run-at t) scan-run.Post scan-run-Inv-loop scan-run-μ-loop
 scan-run-loop-less-3 t c = let q = passed t c in omega arith
@@ -429,6 +439,9 @@ scan-run-loop-again-3 t c = passed t c .1
 scan-run-returns-3 : (t : ℕ) → scan-run-lts.Need-returns-3 (scan-run-claims t) (scan-run-at t) scan-run.Post scan-run-Inv-loop scan-run-μ-loop
 scan-run-returns-3 t c = inv-end _ _ _ _ (c .before .loop .inv) (c .loop-test .left)
 
+scan-short-is-string-requires : (t : ℕ) → scan-short-lts.Need-is-string-requires (scan-short-claims t) (scan-short-at t) scan-short.Post
+scan-short-is-string-requires t c κs = search needs
+
 scan-short-add-one-of : (t : ℕ) → scan-short-lts.Need-add-one-of (scan-short-claims t) (scan-short-at t) scan-short.Post
 scan-short-add-one-of t c = search needs
 
@@ -436,7 +449,7 @@ scan-short-one-of-requires : (t : ℕ) → scan-short-lts.Need-one-of-requires (
 scan-short-one-of-requires t c κs = search needs
 
 scan-short-returns : (t : ℕ) → scan-short-lts.Need-returns (scan-short-claims t) (scan-short-at t) scan-short.Post
-scan-short-returns t c = string-is _ _ _ (c .before .if1 .taken) (c .before .before .before .pre .1 .1) _ (c .one-of .ensures)
+scan-short-returns t c = string-is _ _ _ (eqb-true _ _ (sym (c .before .before .is-string .ensures) ∙ c .before .if1 .taken)) (c .before .before .before .before .pre .1 .1) _ (c .one-of .ensures)
 
 scan-short-all-chars-requires : (t : ℕ) → scan-short-lts.Need-all-chars-requires (scan-short-claims t) (scan-short-at t) scan-short.Post
 scan-short-all-chars-requires t c κs = search needs
@@ -446,8 +459,8 @@ scan-short-text-fault-requires t c κs = search needs
 
 scan-short-returns-2 : (t : ℕ) → scan-short-lts.Need-returns-2 (scan-short-claims t) (scan-short-at t) scan-short.Post
 scan-short-returns-2 t c =
-    let p = c .before .before .before .before .before .before .pre .1 in
-    chars-refused _ _ _ (c .before .before .before .before .if1 .left) (p .0) (p .1) (c .before .before .before .all-chars .ensures (c .before .before .if2 .taken)) _ (c .before .text-fault .ensures) (c .if3 .taken)
+    let p = c .before .before .before .before .before .before .before .pre .1 in
+    chars-refused _ _ _ (eqb-false _ _ (sym (c .before .before .before .before .before .is-string .ensures) ∙ c .before .before .before .before .if1 .left)) (p .0) (p .1) (c .before .before .before .all-chars .ensures (c .before .before .if2 .taken)) _ (c .before .text-fault .ensures) (c .if3 .taken)
 
 scan-short-add-one-of-2 : (t : ℕ) → scan-short-lts.Need-add-one-of-2 (scan-short-claims t) (scan-short-at t) scan-short.Post
 scan-short-add-one-of-2 t c = search needs
@@ -457,8 +470,8 @@ scan-short-one-of-requires-2 t c κs = search needs
 
 scan-short-returns-3 : (t : ℕ) → scan-short-lts.Need-returns-3 (scan-short-claims t) (scan-short-at t) scan-short.Post
 scan-short-returns-3 t c =
-    let p = c .before .before .before .before .before .before .before .pre .1 in
-    chars-accepted _ _ _ (c .before .before .before .before .before .if1 .left) (p .0) (p .1) (c .before .before .before .before .all-chars .ensures (c .before .before .before .if2 .taken)) _ (c .before .before .text-fault .ensures) (c .before .if3 .left) _
+    let p = c .before .before .before .before .before .before .before .before .pre .1 in
+    chars-accepted _ _ _ (eqb-false _ _ (sym (c .before .before .before .before .before .before .is-string .ensures) ∙ c .before .before .before .before .before .if1 .left)) (p .0) (p .1) (c .before .before .before .before .all-chars .ensures (c .before .before .before .if2 .taken)) _ (c .before .before .text-fault .ensures) (c .before .if3 .left) _
     (c .one-of2 .ensures)
 
 scan-short-add-scan-run : (t : ℕ) → scan-short-lts.Need-add-scan-run (scan-short-claims t) (scan-short-at t) scan-short.Post
@@ -466,7 +479,7 @@ scan-short-add-scan-run t c = search needs
 
 scan-short-scan-run-requires : (t : ℕ) → scan-short-lts.Need-scan-run-requires (scan-short-claims t) (scan-short-at t) scan-short.Post
 scan-short-scan-run-requires t c κs =
-    let p = c .before .before .before .before .pre in
+    let p = c .before .before .before .before .before .pre in
     (omega (arith, p .0), (omega (arith, p .1 .1), omega (arith, p .1 .2)))
 
 scan-short-enum-known-r : (t : ℕ) → scan-short-lts.Need-enum-known-r (scan-short-claims t) (scan-short-at t) scan-short.Post
@@ -474,8 +487,8 @@ scan-short-enum-known-r t c = search needs
 
 scan-short-add-t20 : (t : ℕ) → scan-short-lts.Need-add-t20 (scan-short-claims t) (scan-short-at t) scan-short.Post
 scan-short-add-t20 t c =
-    let l = short-place _ _ _ (c .before .before .before .before .before .before .if1 .left) _ _ (sym (c .before .r .given .1) ∙ c .before .before .before .scan-run .ensures) in
-    omega (arith, c .before .before .before .before .before .before .before .before .pre .1 .1)
+    let l = short-place _ _ _ (eqb-false (c .before .before .before .before .before .before .before .before .before .args .b) 0xc6 (sym (c .before .before .before .before .before .before .before .is-string .ensures) ∙ c .before .before .before .before .before .before .if1 .left)) _ _ (sym (c .before .r .given .1) ∙ c .before .before .before .scan-run .ensures) in
+    omega (arith, c .before .before .before .before .before .before .before .before .before .pre .1 .1)
 
 scan-short-enum-known-r-2 : (t : ℕ) → scan-short-lts.Need-enum-known-r-2 (scan-short-claims t) (scan-short-at t) scan-short.Post
 scan-short-enum-known-r-2 t c = search needs
@@ -485,17 +498,17 @@ scan-short-fault-of-requires t c κs = search needs
 
 scan-short-returns-4 : (t : ℕ) → scan-short-lts.Need-returns-4 (scan-short-claims t) (scan-short-at t) scan-short.Post
 scan-short-returns-4 t c =
-    short-faulty _ _ _ (c .before .before .before .before .before .before .before .before .if1 .left) _ (sym (c .before .before .before .r2 .given .1) ∙ c .before .before .before .before .before .scan-run .ensures) _ (c .before .fault-of .ensures) (c .if4 .taken)
+    short-faulty _ _ _ (eqb-false _ _ (sym (c .before .before .before .before .before .before .before .before .before .is-string .ensures) ∙ c .before .before .before .before .before .before .before .before .if1 .left)) _ (sym (c .before .before .before .r2 .given .1) ∙ c .before .before .before .before .before .scan-run .ensures) _ (c .before .fault-of .ensures) (c .if4 .taken)
 
 scan-short-group-of-requires : (t : ℕ) → scan-short-lts.Need-group-of-requires (scan-short-claims t) (scan-short-at t) scan-short.Post
 scan-short-group-of-requires t c κs = search needs
 
 scan-short-returns-5 : (t : ℕ) → scan-short-lts.Need-returns-5 (scan-short-claims t) (scan-short-at t) scan-short.Post
-scan-short-returns-5 t c = short-refused _ _ _ (c .before .before .before .before .before .before .if1 .left) _ _ (sym (c .before .r .given .1) ∙ c .before .before .before .scan-run .ensures)
+scan-short-returns-5 t c = short-refused _ _ _ (eqb-false _ _ (sym (c .before .before .before .before .before .before .before .is-string .ensures) ∙ c .before .before .before .before .before .before .if1 .left)) _ _ (sym (c .before .r .given .1) ∙ c .before .before .before .scan-run .ensures)
 
 scan-short-returns-6 : (t : ℕ) → scan-short-lts.Need-returns-6 (scan-short-claims t) (scan-short-at t) scan-short.Post
 scan-short-returns-6 t c =
-    short-whole _ _ _ (c .before .before .before .before .before .before .before .before .before .if1 .left) _ (sym (c .before .before .before .before .r2 .given .1) ∙ c .before .before .before .before .before .before .scan-run .ensures) _ (c .before .before .fault-of .ensures) (c .before .if4 .left) _
+    short-whole _ _ _ (eqb-false _ _ (sym (c .before .before .before .before .before .before .before .before .before .before .is-string .ensures) ∙ c .before .before .before .before .before .before .before .before .before .if1 .left)) _ (sym (c .before .before .before .before .r2 .given .1) ∙ c .before .before .before .before .before .before .scan-run .ensures) _ (c .before .before .fault-of .ensures) (c .before .if4 .left) _
     (c .group-of .ensures)
 
 pub +scan-object+scan-run+scan-short-spec : {M : Type 1} → statement M
@@ -547,6 +560,7 @@ pub +scan-object+scan-run+scan-short-spec : {M : Type 1} → statement M
     (scan-run-loop-holds t)
     (scan-run-shared-slice-read-b t)
     (scan-run-add-behind t)
+    (scan-run-is-non-atomic-requires t)
     (scan-run-sub-short-size t)
     (scan-run-part-short-size-start t)
     (scan-run-part-short-size-end t)
@@ -559,7 +573,7 @@ pub +scan-object+scan-run+scan-short-spec : {M : Type 1} → statement M
     (scan-run-part-scan-short-end t)
     (scan-run-scan-short-requires t)
     (scan-run-enum-known-r t)
-    (scan-run-add-t31 t)
+    (scan-run-add-t34 t)
     (scan-run-returns t)
     (scan-run-enum-known-r-2 t)
     (scan-run-plus-requires t)
@@ -574,7 +588,7 @@ pub +scan-object+scan-run+scan-short-spec : {M : Type 1} → statement M
     (scan-run-part-scan-object-end t)
     (scan-run-scan-object-requires t)
     (scan-run-enum-known-o t)
-    (scan-run-add-t35 t)
+    (scan-run-add-t39 t)
     (scan-run-returns-2 t)
     (scan-run-enum-known-o-2 t)
     (scan-run-plus-requires-2 t)
@@ -586,6 +600,7 @@ pub +scan-object+scan-run+scan-short-spec : {M : Type 1} → statement M
     λ t. scan-short-lts.spec (scan-short-claims t)
     (scan-short-at t)
     scan-short.Post
+    (scan-short-is-string-requires t)
     (scan-short-add-one-of t)
     (scan-short-one-of-requires t)
     (scan-short-returns t)

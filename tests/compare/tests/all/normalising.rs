@@ -15,7 +15,7 @@ use std::hash::{DefaultHasher, Hash, Hasher};
 #[test]
 fn vectors() {
     let mut checker = Checker::new();
-    let vectors = with_key("message", 533);
+    let vectors = with_key("message", 559);
     in_both_stacks(&mut checker, |checker| {
         vectors
             .iter()

@@ -2,11 +2,13 @@
 -- Assumes nothing.
 use borrow.Author.Needs.{needs}
 use native.Mathlib.Omega.{arith}
-use mathlib.Core.Path.{refl}
+use mathlib.Core.Path.{refl, sym, subst}
+use mathlib.Core.Logic.{⊎-elim}
+use mathlib.Core.List.{List}
 use lib.ListN.{length, length-take, length-drop}
 use Rattle.fill.proofs.Over.{part-length, still-three}
 use Rattle.fill.proofs.PlainLaws.{head-apt}
-use Rattle.fill.proofs.RowWalk.{RowsInv, rows-start, rows-end, here-fits, rows-more, stretch-turn, plain-fits, plain-filled, none-filled, inside-fits, inside-closable, open-filled}
+use Rattle.fill.proofs.RowWalk.{RowsInv, rows-start, rows-end, here-fits, rows-more, stretch-turn, stretch-stay, plain-fits, plain-filled, none-filled, inside-fits, inside-closable, open-filled}
 use Rattle.fill.proofs.ShortWalk.{own-room, text-room, text-filled, run-room, run-filled, run-few, short-end, short-fits, short-more}
 use Prim.Native.Nat.{ℕ, _+_, _-_, _*_, _<_}
 use borrow.Fn.Kinds.{In}
@@ -29,6 +31,7 @@ use Rattle.fill.proofs.rows.is_text.Reads as is-text-reads
 use Rattle.fill.proofs.rows.kind_of.Reads as kind-of-reads
 use Rattle.fill.proofs.rows.own_words.Reads as own-words-reads
 use Rattle.fill.proofs.stretch.put_stretch.Reads as put-stretch-reads
+use Rattle.format.proofs.tree.is_non_atomic.Reads as is-non-atomic-reads
 use Rattle.wire.proofs.head.head_of.Reads as head-of-reads
 use Rattle.wire.proofs.short.short_size.Reads as short-size-reads
 use Rattle.fill.proofs.rows.+fill_object+fill_run+fill_short.{statement}
@@ -85,6 +88,8 @@ fill-object-claims t = (
 
 abbrev fill-run-claims : ℕ → fill-run-lts.Claims
 fill-run-claims t = (
+  is-non-atomic-reads.Asked,
+  is-non-atomic-reads.Learnt,
   short-size-reads.Asked,
   short-size-reads.Learnt,
   fill-short-below t,
@@ -216,8 +221,11 @@ fill-run-μ-loop depth s base table₀ i₀ rows₀ count₀ words₀ table i ro
 fill-run-loop-holds : (t : ℕ) → fill-run-lts.Need-loop-holds (fill-run-claims t) (fill-run-at t) fill-run.Post fill-run-Inv-loop fill-run-μ-loop
 fill-run-loop-holds t c = rows-start _ _ _ (c .before .before .args .table .now) (c .before .before .pre .1 .1)
 
-fill-run-shared-slice-read-short-size : (t : ℕ) → fill-run-lts.Need-shared-slice-read-short-size (fill-run-claims t) (fill-run-at t) fill-run.Post fill-run-Inv-loop fill-run-μ-loop
-fill-run-shared-slice-read-short-size t c = search needs
+fill-run-shared-slice-read-b : (t : ℕ) → fill-run-lts.Need-shared-slice-read-b (fill-run-claims t) (fill-run-at t) fill-run.Post fill-run-Inv-loop fill-run-μ-loop
+fill-run-shared-slice-read-b t c = search needs
+
+fill-run-is-non-atomic-requires : (t : ℕ) → fill-run-lts.Need-is-non-atomic-requires (fill-run-claims t) (fill-run-at t) fill-run.Post fill-run-Inv-loop fill-run-μ-loop
+fill-run-is-non-atomic-requires t c κs = search needs
 
 fill-run-add-short-size : (t : ℕ) → fill-run-lts.Need-add-short-size (fill-run-claims t) (fill-run-at t) fill-run.Post fill-run-Inv-loop fill-run-μ-loop
 fill-run-add-short-size t c = search needs
@@ -238,13 +246,10 @@ fill-run-add-from : (t : ℕ) → fill-run-lts.Need-add-from (fill-run-claims t)
 fill-run-add-from t c = search needs
 
 fill-run-add-end : (t : ℕ) → fill-run-lts.Need-add-end (fill-run-claims t) (fill-run-at t) fill-run.Post fill-run-Inv-loop fill-run-μ-loop
-fill-run-add-end t c = let g = c .before .short-size .ensures (c .if1 .taken) in omega (arith, short-end _ _ _ _ _ _ _ _ _ (c .before .before .before .before .before .loop .inv) _ (c .before .before .before .before .loop-test .taken) refl _ g)
+fill-run-add-end t c = omega (arith, short-end _ _ _ _ _ _ _ _ _ (c .before .before .before .before .before .before .before .loop .inv) _ (c .before .before .before .before .before .before .loop-test .taken) refl _ (c .before .short-size .ensures (c .if2 .taken)))
 
 fill-run-mul-used : (t : ℕ) → fill-run-lts.Need-mul-used (fill-run-claims t) (fill-run-at t) fill-run.Post fill-run-Inv-loop fill-run-μ-loop
 fill-run-mul-used t c = search needs
-
-fill-run-shared-slice-read-fill-short : (t : ℕ) → fill-run-lts.Need-shared-slice-read-fill-short (fill-run-claims t) (fill-run-at t) fill-run.Post fill-run-Inv-loop fill-run-μ-loop
-fill-run-shared-slice-read-fill-short t c = search needs
 
 fill-run-sub-fill-short : (t : ℕ) → fill-run-lts.Need-sub-fill-short (fill-run-claims t) (fill-run-at t) fill-run.Post fill-run-Inv-loop fill-run-μ-loop
 fill-run-sub-fill-short t c = search needs
@@ -253,7 +258,7 @@ fill-run-part-fill-short-start : (t : ℕ) → fill-run-lts.Need-part-fill-short
 fill-run-part-fill-short-start t c = search needs
 
 fill-run-part-fill-short-end : (t : ℕ) → fill-run-lts.Need-part-fill-short-end (fill-run-claims t) (fill-run-at t) fill-run.Post fill-run-Inv-loop fill-run-μ-loop
-fill-run-part-fill-short-end t c = short-end _ _ _ _ _ _ _ _ _ (c .before .before .before .before .before .before .loop .inv) _ (c .before .before .before .before .before .loop-test .taken) refl _ (c .before .before .short-size .ensures (c .before .if1 .taken))
+fill-run-part-fill-short-end t c = short-end _ _ _ _ _ _ _ _ _ (c .before .before .before .before .before .before .before .loop .inv) _ (c .before .before .before .before .before .before .loop-test .taken) refl _ (c .before .short-size .ensures (c .if2 .taken))
 
 fill-run-add-fill-short : (t : ℕ) → fill-run-lts.Need-add-fill-short (fill-run-claims t) (fill-run-at t) fill-run.Post fill-run-Inv-loop fill-run-μ-loop
 fill-run-add-fill-short t c = search needs
@@ -272,41 +277,41 @@ fill-run-part-fill-short-end-2 t c = search needs
 
 fill-run-fill-short-requires : (t : ℕ) → fill-run-lts.Need-fill-short-requires (fill-run-claims t) (fill-run-at t) fill-run.Post fill-run-Inv-loop fill-run-μ-loop
 fill-run-fill-short-requires t c κs =
-    let v = c .before .before .before .before .before .before .before .before .loop .inv in
-    let g = c .before .before .before .before .short-size .ensures (c .before .before .before .if1 .taken) in
-    let n = short-end _ _ _ _ _ _ _ _ _ v _ (c .before .before .before .before .before .before .before .loop-test .taken) refl _ g in
-    (simp (length-take, length-drop) (omega arith), (simp (length-take, length-drop) (omega arith), short-fits _ _ _ _ _ _ _ _ _ v _ (c .before .before .before .before .before .before .before .loop-test .taken) refl _ g))
+    let v = c .before .before .before .before .before .before .before .before .before .loop .inv in
+    let g = c .before .before .before .short-size .ensures (c .before .before .if2 .taken) in
+    let n = short-end _ _ _ _ _ _ _ _ _ v _ (c .before .before .before .before .before .before .before .before .loop-test .taken) refl _ g in
+    (simp (length-take, length-drop) (omega arith), (simp (length-take, length-drop) (omega arith), short-fits _ _ _ _ _ _ _ _ _ v _ (c .before .before .before .before .before .before .before .before .loop-test .taken) refl _ g))
 
 fill-run-add-rows : (t : ℕ) → fill-run-lts.Need-add-rows (fill-run-claims t) (fill-run-at t) fill-run.Post fill-run-Inv-loop fill-run-μ-loop
 fill-run-add-rows t c =
-    let m = short-more _ _ _ _ _ _ _ _ _ (c .before .before .before .before .before .before .before .before .before .before .before .before .loop .inv) _ (c .before .before .before .before .before .before .before .before .before .before .before .loop-test .taken) refl _ (c .before .before .before .before .before .before .before .before .short-size .ensures (c .before .before .before .before .before .before .before .if1 .taken)) _ _ (c .before .before .before .fill-short .ensures) in
-    let f = c .before .before .before .before .before .before .before .before .before .before .before .before .before .before .before .good in
+    let m = short-more _ _ _ _ _ _ _ _ _ (c .before .before .before .before .before .before .before .before .before .before .before .before .before .loop .inv) _ (c .before .before .before .before .before .before .before .before .before .before .before .before .loop-test .taken) refl _ (c .before .before .before .before .before .before .before .short-size .ensures (c .before .before .before .before .before .before .if2 .taken)) _ _ (c .before .before .before .fill-short .ensures) in
+    let f = c .before .before .before .before .before .before .before .before .before .before .before .before .before .before .before .before .good in
     omega (arith, m .room)
 
 fill-run-add-count : (t : ℕ) → fill-run-lts.Need-add-count (fill-run-claims t) (fill-run-at t) fill-run.Post fill-run-Inv-loop fill-run-μ-loop
 fill-run-add-count t c =
-    let m = short-more _ _ _ _ _ _ _ _ _ (c .before .before .before .before .before .before .before .before .before .before .before .before .loop .inv) _ (c .before .before .before .before .before .before .before .before .before .before .before .loop-test .taken) refl _ (c .before .before .before .before .before .before .before .before .short-size .ensures (c .before .before .before .before .before .before .before .if1 .taken)) _ _ (c .before .before .before .fill-short .ensures) in
-    let f = c .before .before .before .before .before .before .before .before .before .before .before .before .before .before .before .good in
+    let m = short-more _ _ _ _ _ _ _ _ _ (c .before .before .before .before .before .before .before .before .before .before .before .before .before .loop .inv) _ (c .before .before .before .before .before .before .before .before .before .before .before .before .loop-test .taken) refl _ (c .before .before .before .before .before .before .before .short-size .ensures (c .before .before .before .before .before .before .if2 .taken)) _ _ (c .before .before .before .fill-short .ensures) in
+    let f = c .before .before .before .before .before .before .before .before .before .before .before .before .before .before .before .before .good in
     omega (arith, m .room, m .fewer)
 
 fill-run-add-words : (t : ℕ) → fill-run-lts.Need-add-words (fill-run-claims t) (fill-run-at t) fill-run.Post fill-run-Inv-loop fill-run-μ-loop
 fill-run-add-words t c =
-    let m = short-more _ _ _ _ _ _ _ _ _ (c .before .before .before .before .before .before .before .before .before .before .before .before .before .loop .inv) _ (c .before .before .before .before .before .before .before .before .before .before .before .before .loop-test .taken) refl _ (c .before .before .before .before .before .before .before .before .before .short-size .ensures (c .before .before .before .before .before .before .before .before .if1 .taken)) _ _ (c .before .before .before .before .fill-short .ensures) in
+    let m = short-more _ _ _ _ _ _ _ _ _ (c .before .before .before .before .before .before .before .before .before .before .before .before .before .before .loop .inv) _ (c .before .before .before .before .before .before .before .before .before .before .before .before .before .loop-test .taken) refl _ (c .before .before .before .before .before .before .before .before .short-size .ensures (c .before .before .before .before .before .before .before .if2 .taken)) _ _ (c .before .before .before .before .fill-short .ensures) in
     omega (arith, m .few)
 
 fill-run-loop-less : (t : ℕ) → fill-run-lts.Need-loop-less (fill-run-claims t) (fill-run-at t) fill-run.Post fill-run-Inv-loop fill-run-μ-loop
 fill-run-loop-less t c =
-    let g = short-end _ _ _ _ _ _ _ _ _ (c .before .before .before .before .before .before .before .before .before .before .before .before .before .loop .inv) _ (c .before .before .before .before .before .before .before .before .before .before .before .before .loop-test .taken) refl _ (c .before .before .before .before .before .before .before .before .before .short-size .ensures (c .before .before .before .before .before .before .before .before .if1 .taken)) in
+    let g = short-end _ _ _ _ _ _ _ _ _ (c .before .before .before .before .before .before .before .before .before .before .before .before .before .before .loop .inv) _ (c .before .before .before .before .before .before .before .before .before .before .before .before .before .loop-test .taken) refl _ (c .before .before .before .before .before .before .before .before .short-size .ensures (c .before .before .before .before .before .before .before .if2 .taken)) in
     omega arith
 
 fill-run-loop-again : (t : ℕ) → fill-run-lts.Need-loop-again (fill-run-claims t) (fill-run-at t) fill-run.Post fill-run-Inv-loop fill-run-μ-loop
-fill-run-loop-again t c = short-more _ _ _ _ _ _ _ _ _ (c .before .before .before .before .before .before .before .before .before .before .before .before .before .loop .inv) _ (c .before .before .before .before .before .before .before .before .before .before .before .before .loop-test .taken) refl _ (c .before .before .before .before .before .before .before .before .before .short-size .ensures (c .before .before .before .before .before .before .before .before .if1 .taken)) _ _ (c .before .before .before .before .fill-short .ensures)
+fill-run-loop-again t c = short-more _ _ _ _ _ _ _ _ _ (c .before .before .before .before .before .before .before .before .before .before .before .before .before .before .loop .inv) _ (c .before .before .before .before .before .before .before .before .before .before .before .before .before .loop-test .taken) refl _ (c .before .before .before .before .before .before .before .before .short-size .ensures (c .before .before .before .before .before .before .before .if2 .taken)) _ _ (c .before .before .before .before .fill-short .ensures)
 
 fill-run-mul-put-stretch : (t : ℕ) → fill-run-lts.Need-mul-put-stretch (fill-run-claims t) (fill-run-at t) fill-run.Post fill-run-Inv-loop fill-run-μ-loop
 fill-run-mul-put-stretch t c = search needs
 
 fill-run-put-stretch-requires : (t : ℕ) → fill-run-lts.Need-put-stretch-requires (fill-run-claims t) (fill-run-at t) fill-run.Post fill-run-Inv-loop fill-run-μ-loop
-fill-run-put-stretch-requires t c κs = let v = c .before .before .before .before .before .before .loop .inv in (omega arith, omega arith)
+fill-run-put-stretch-requires t c κs = let v = c .before .before .before .before .before .loop .inv in (omega arith, omega arith)
 
 fill-run-add-rows-2 : (t : ℕ) → fill-run-lts.Need-add-rows-2 (fill-run-claims t) (fill-run-at t) fill-run.Post fill-run-Inv-loop fill-run-μ-loop
 fill-run-add-rows-2 t c = search needs
@@ -318,10 +323,21 @@ fill-run-loop-less-2 : (t : ℕ) → fill-run-lts.Need-loop-less-2 (fill-run-cla
 fill-run-loop-less-2 t c = search needs
 
 fill-run-loop-again-2 : (t : ℕ) → fill-run-lts.Need-loop-again-2 (fill-run-claims t) (fill-run-at t) fill-run.Post fill-run-Inv-loop fill-run-μ-loop
-fill-run-loop-again-2 t c = stretch-turn _ _ _ _ _ _ _ _ _ (c .before .before .before .before .before .before .before .before .before .before .before .before .loop .inv) _ _ _ (c .before .before .before .before .before .put-stretch .ensures)
+fill-run-loop-again-2 t c = stretch-turn _ _ _ _ _ _ _ _ _ (c .before .before .before .before .before .before .before .before .before .before .before .before .loop .inv) _ _ _ (c .before .before .before .before .before .before .put-stretch .ensures)
 
-fill-run-shared-slice-read-b : (t : ℕ) → fill-run-lts.Need-shared-slice-read-b (fill-run-claims t) (fill-run-at t) fill-run.Post fill-run-Inv-loop fill-run-μ-loop
-fill-run-shared-slice-read-b t c = search needs
+-- Both ways on to the object at i leave the rows so far as they are.
+abbrev Kept-at : (t : ℕ) → fill-run-lts.Joined1 (fill-run-claims t) (fill-run-at t) fill-run.Post fill-run-Inv-loop fill-run-μ-loop → List ℕ → Type 0
+Kept-at t c y =
+    let a = c .before .before .before .before .before .before .before .args in
+    let l = c .before .before .before .before .loop in
+    RowsInv (a .depth) (a .s .now) (a .base) (a .table .now) y (l .i) (l .rows) (l .count) (l .words)
+
+joined : (t : ℕ) (c : fill-run-lts.Joined1 (fill-run-claims t) (fill-run-at t) fill-run.Post fill-run-Inv-loop fill-run-μ-loop) → Kept-at t c (c .if1 .table)
+joined t c =
+    ⊎-elim
+    (λ x. subst (Kept-at t c) (sym (x .4)) (c .before .before .before .before .loop .inv))
+    (λ x. subst (Kept-at t c) (sym (x .7)) (stretch-stay _ _ _ _ _ _ _ _ _ (c .before .before .before .before .loop .inv) _ _ _ (x .2 .ensures) (x .6 .left)))
+    (c .if1 .came)
 
 fill-run-add-i : (t : ℕ) → fill-run-lts.Need-add-i (fill-run-claims t) (fill-run-at t) fill-run.Post fill-run-Inv-loop fill-run-μ-loop
 fill-run-add-i t c = search needs
@@ -345,48 +361,41 @@ fill-run-mul-fill-object : (t : ℕ) → fill-run-lts.Need-mul-fill-object (fill
 fill-run-mul-fill-object t c = search needs
 
 fill-run-sub-fill-object-2 : (t : ℕ) → fill-run-lts.Need-sub-fill-object-2 (fill-run-claims t) (fill-run-at t) fill-run.Post fill-run-Inv-loop fill-run-μ-loop
-fill-run-sub-fill-object-2 t c = search needs
+fill-run-sub-fill-object-2 t c = let v = joined t (c .before) in omega (arith, v .long, v .room)
 
 fill-run-part-fill-object-start-2 : (t : ℕ) → fill-run-lts.Need-part-fill-object-start-2 (fill-run-claims t) (fill-run-at t) fill-run.Post fill-run-Inv-loop fill-run-μ-loop
-fill-run-part-fill-object-start-2 t c = search needs
+fill-run-part-fill-object-start-2 t c = let v = joined t (c .before) in omega (arith, v .long, v .room)
 
 fill-run-part-fill-object-end-2 : (t : ℕ) → fill-run-lts.Need-part-fill-object-end-2 (fill-run-claims t) (fill-run-at t) fill-run.Post fill-run-Inv-loop fill-run-μ-loop
 fill-run-part-fill-object-end-2 t c = search needs
 
 fill-run-fill-object-requires : (t : ℕ) → fill-run-lts.Need-fill-object-requires (fill-run-claims t) (fill-run-at t) fill-run.Post fill-run-Inv-loop fill-run-μ-loop
 fill-run-fill-object-requires t c κs =
-    let v = stretch-turn _ _ _ _ _ _ _ _ _ (c .before .before .before .before .before .before .before .before .before .before .before .before .before .before .before .loop .inv) _ _ _ (c .before .before .before .before .before .before .before .before .put-stretch .ensures) in
-    (simp (length-take, length-drop) (omega arith), (simp (length-take, length-drop) (omega arith), here-fits _ _ _ _ _ _ _ _ _ v _ (omega arith) refl))
+    let v = joined t (c .before .before) in
+    (simp (length-take, length-drop) (omega arith), (simp (length-take, length-drop) (omega arith), here-fits _ _ _ _ _ _ _ _ _ v _ (c .before .before .before .before .before .loop-test .taken) refl))
 
 fill-run-add-rows-3 : (t : ℕ) → fill-run-lts.Need-add-rows-3 (fill-run-claims t) (fill-run-at t) fill-run.Post fill-run-Inv-loop fill-run-μ-loop
 fill-run-add-rows-3 t c =
-    let v = stretch-turn _ _ _ _ _ _ _ _ _ (c .before .before .before .before .before .before .before .before .before .before .before .before .before .before .before .before .before .before .before .loop .inv) _ _ _ (c .before .before .before .before .before .before .before .before .before .before .before .before .put-stretch .ensures) in
-    let f = c .before .before .before .before .before .before .before .before .before .before .before .before .before .before .before .before .before .before .before .before .before .before .good in
-    omega (arith, rows-more _ _ _ _ _ _ _ _ _ v _ (omega arith) refl _ _ (c .before .before .before .fill-object .ensures) .room)
+    let f = c .before .before .before .before .before .before .before .before .before .before .before .before .before .good in
+    omega (arith, rows-more _ _ _ _ _ _ _ _ _ (joined t (c .before .before .before .before .before .before)) _ (c .before .before .before .before .before .before .before .before .before .loop-test .taken) refl _ _ (c .before .before .before .fill-object .ensures) .room)
 
 fill-run-add-count-3 : (t : ℕ) → fill-run-lts.Need-add-count-3 (fill-run-claims t) (fill-run-at t) fill-run.Post fill-run-Inv-loop fill-run-μ-loop
 fill-run-add-count-3 t c =
-    let v = stretch-turn _ _ _ _ _ _ _ _ _ (c .before .before .before .before .before .before .before .before .before .before .before .before .before .before .before .before .before .before .before .before .loop .inv) _ _ _ (c .before .before .before .before .before .before .before .before .before .before .before .before .before .put-stretch .ensures) in
-    let f = c .before .before .before .before .before .before .before .before .before .before .before .before .before .before .before .before .before .before .before .before .before .before .before .good in
-    let m = rows-more _ _ _ _ _ _ _ _ _ v _ (omega arith) refl _ _ (c .before .before .before .before .fill-object .ensures) in omega (arith, m .room, m .fewer)
+    let f = c .before .before .before .before .before .before .before .before .before .before .before .before .before .before .good in
+    let m = rows-more _ _ _ _ _ _ _ _ _ (joined t (c .before .before .before .before .before .before .before)) _ (c .before .before .before .before .before .before .before .before .before .before .loop-test .taken) refl _ _ (c .before .before .before .before .fill-object .ensures) in
+    omega (arith, m .room, m .fewer)
 
 fill-run-add-words-2 : (t : ℕ) → fill-run-lts.Need-add-words-2 (fill-run-claims t) (fill-run-at t) fill-run.Post fill-run-Inv-loop fill-run-μ-loop
-fill-run-add-words-2 t c =
-    let v = stretch-turn _ _ _ _ _ _ _ _ _ (c .before .before .before .before .before .before .before .before .before .before .before .before .before .before .before .before .before .before .before .before .before .loop .inv) _ _ _ (c .before .before .before .before .before .before .before .before .before .before .before .before .before .before .put-stretch .ensures) in
-    omega (arith, rows-more _ _ _ _ _ _ _ _ _ v _ (omega arith) refl _ _ (c .before .before .before .before .before .fill-object .ensures) .few)
+fill-run-add-words-2 t c = omega (arith, rows-more _ _ _ _ _ _ _ _ _ (joined t (c .before .before .before .before .before .before .before .before)) _ (c .before .before .before .before .before .before .before .before .before .before .before .loop-test .taken) refl _ _ (c .before .before .before .before .before .fill-object .ensures) .few)
 
 fill-run-add-i-2 : (t : ℕ) → fill-run-lts.Need-add-i-2 (fill-run-claims t) (fill-run-at t) fill-run.Post fill-run-Inv-loop fill-run-μ-loop
-fill-run-add-i-2 t c =
-    let v = stretch-turn _ _ _ _ _ _ _ _ _ (c .before .before .before .before .before .before .before .before .before .before .before .before .before .before .before .before .before .before .before .before .before .before .loop .inv) _ _ _ (c .before .before .before .before .before .before .before .before .before .before .before .before .before .before .before .put-stretch .ensures) in
-    omega (arith, c .before .before .before .before .before .before .before .before .before .before .before .before .before .before .before .before .before .before .before .before .before .before .before .before .before .pre .1 .0, rows-more _ _ _ _ _ _ _ _ _ v _ (omega arith) refl _ _ (c .before .before .before .before .before .before .fill-object .ensures) .at)
+fill-run-add-i-2 t c = omega (arith, c .before .before .before .before .before .before .before .before .before .before .before .before .before .before .before .before .pre .1 .0, rows-more _ _ _ _ _ _ _ _ _ (joined t (c .before .before .before .before .before .before .before .before .before)) _ (c .before .before .before .before .before .before .before .before .before .before .before .before .loop-test .taken) refl _ _ (c .before .before .before .before .before .before .fill-object .ensures) .at)
 
 fill-run-loop-less-3 : (t : ℕ) → fill-run-lts.Need-loop-less-3 (fill-run-claims t) (fill-run-at t) fill-run.Post fill-run-Inv-loop fill-run-μ-loop
 fill-run-loop-less-3 t c = search needs
 
 fill-run-loop-again-3 : (t : ℕ) → fill-run-lts.Need-loop-again-3 (fill-run-claims t) (fill-run-at t) fill-run.Post fill-run-Inv-loop fill-run-μ-loop
-fill-run-loop-again-3 t c =
-    let v = stretch-turn _ _ _ _ _ _ _ _ _ (c .before .before .before .before .before .before .before .before .before .before .before .before .before .before .before .before .before .before .before .before .before .before .loop .inv) _ _ _ (c .before .before .before .before .before .before .before .before .before .before .before .before .before .before .before .put-stretch .ensures) in
-    rows-more _ _ _ _ _ _ _ _ _ v _ (omega arith) refl _ _ (c .before .before .before .before .before .before .fill-object .ensures)
+fill-run-loop-again-3 t c = rows-more _ _ _ _ _ _ _ _ _ (joined t (c .before .before .before .before .before .before .before .before .before)) _ (c .before .before .before .before .before .before .before .before .before .before .before .before .loop-test .taken) refl _ _ (c .before .before .before .before .before .before .fill-object .ensures)
 
 fill-run-same-length : (t : ℕ) → fill-run-lts.Need-same-length (fill-run-claims t) (fill-run-at t) fill-run.Post fill-run-Inv-loop fill-run-μ-loop
 fill-run-same-length t c = search needs
@@ -501,7 +510,8 @@ pub +fill-object+fill-run+fill-short-spec : {M : Type 1} → statement M
     fill-run-Inv-loop
     fill-run-μ-loop
     (fill-run-loop-holds t)
-    (fill-run-shared-slice-read-short-size t)
+    (fill-run-shared-slice-read-b t)
+    (fill-run-is-non-atomic-requires t)
     (fill-run-add-short-size t)
     (fill-run-sub-short-size t)
     (fill-run-part-short-size-start t)
@@ -510,7 +520,6 @@ pub +fill-object+fill-run+fill-short-spec : {M : Type 1} → statement M
     (fill-run-add-from t)
     (fill-run-add-end t)
     (fill-run-mul-used t)
-    (fill-run-shared-slice-read-fill-short t)
     (fill-run-sub-fill-short t)
     (fill-run-part-fill-short-start t)
     (fill-run-part-fill-short-end t)
@@ -531,7 +540,6 @@ pub +fill-object+fill-run+fill-short-spec : {M : Type 1} → statement M
     (fill-run-add-count-2 t)
     (fill-run-loop-less-2 t)
     (fill-run-loop-again-2 t)
-    (fill-run-shared-slice-read-b t)
     (fill-run-add-i t)
     (fill-run-mul-used-2 t)
     (fill-run-sub-fill-object t)

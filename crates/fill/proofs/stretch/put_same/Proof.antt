@@ -1,6 +1,6 @@
 -- The loop's invariant: the rows of the integers so far stand behind what was there. Assumes nothing.
 use Prim.Native.Nat.{_-_}
-use lib.ListN.{length-take, length-drop}
+use lib.ListN.{length, length-take, length-drop}
 use Rattle.format.proofs.SignedLaws.{handed-word}
 use Rattle.format.proofs.TypeBytes.{following-range}
 use Rattle.fill.specs.Stretch.{Stretched}
@@ -11,16 +11,22 @@ use Rattle.fill.proofs.stretch.put_same.Statement.{statement}
 use Rattle.fill.proofs.stretch.put_same.Tie as tie
 
 abbrev Inv-loop : tie.InvT-loop
-Inv-loop s i table₀ used b k room upto₀ rows₀ table upto rows = Stretched s i used table₀ table upto rows
+Inv-loop s i table₀ used b k upto₀ rows₀ table upto rows = Stretched s i used table₀ table upto rows
 
 abbrev μ-loop : tie.MeasureT-loop
-μ-loop s i table₀ used b k room upto₀ rows₀ table upto rows = room - rows
-
-sub-room : tie.Need-sub-room Inv-loop μ-loop
-sub-room c = search needs
+μ-loop s i table₀ used b k upto₀ rows₀ table upto rows = length s - upto
 
 loop-holds : tie.Need-loop-holds Inv-loop μ-loop
 loop-holds c = stretched-none _ _ _ _ (c .before .before .pre .0) (c .before .before .pre .1)
+
+sub-loop : tie.Need-sub-loop Inv-loop μ-loop
+sub-loop c = search needs
+
+mul-loop : tie.Need-mul-loop Inv-loop μ-loop
+mul-loop c = search needs
+
+sub-loop-2 : tie.Need-sub-loop-2 Inv-loop μ-loop
+sub-loop-2 c = search needs
 
 sub-if1 : tie.Need-sub-if1 Inv-loop μ-loop
 sub-if1 c = search needs
@@ -95,8 +101,10 @@ put-same-spec =
     (tie.spec
     Inv-loop
     μ-loop
-    sub-room
     loop-holds
+    sub-loop
+    mul-loop
+    sub-loop-2
     sub-if1
     same-length
     returns

@@ -2,7 +2,8 @@
 -- passed stand there. Assumes nothing.
 use borrow.Author.Needs.{needs}
 use native.Mathlib.Omega.{arith}
-use mathlib.Core.Path.{refl}
+use mathlib.Core.Path.{refl, sym, _∙_}
+use borrow.Author.Tests.{eqb-true, eqb-false}
 use lib.ListN.{length, length-take, length-drop}
 use Rattle.fill.proofs.PlainLaws.{head-apt}
 use Rattle.fill.proofs.WordWalk.{WordsInv, words-start, words-end, bare-turn, here-room, words-more, plain-room, plain-stored, none-stored, inside-room, copies-room, open-stored, string-stored, short-room, short-stored}
@@ -20,6 +21,7 @@ use Rattle.fill.proofs.copies.copy_words.Reads as copy-words-reads
 use Rattle.fill.proofs.plain.put_data.Reads as put-data-reads
 use Rattle.fill.proofs.words.bare_end.Reads as bare-end-reads
 use Rattle.wire.proofs.head.head_of.Reads as head-of-reads
+use Rattle.wire.proofs.short.is_string.Reads as is-string-reads
 use Rattle.wire.proofs.short.short_size.Reads as short-size-reads
 use Rattle.fill.proofs.words.+data_object+data_run.{statement}
 use Rattle.fill.proofs.words.+data_object+data_run.Tie.{close}
@@ -50,6 +52,8 @@ abbrev data-object-claims : ℕ → data-object-lts.Claims
 data-object-claims t = (
   short-size-reads.Asked,
   short-size-reads.Learnt,
+  is-string-reads.Asked,
+  is-string-reads.Learnt,
   data-run-below t,
   data-run.Post,
   head-of-reads.Asked,
@@ -76,8 +80,11 @@ data-object-short-size-requires t c κs = search needs
 data-object-add-end : (t : ℕ) → data-object-lts.Need-add-end (data-object-claims t) (data-object-at t) data-object.Post
 data-object-add-end t c = let g = c .before .short-size .ensures (c .if1 .taken) in omega (arith, g .few)
 
+data-object-is-string-requires : (t : ℕ) → data-object-lts.Need-is-string-requires (data-object-claims t) (data-object-at t) data-object.Post
+data-object-is-string-requires t c κs = search needs
+
 data-object-returns : (t : ℕ) → data-object-lts.Need-returns (data-object-claims t) (data-object-at t) data-object.Post
-data-object-returns t c = string-stored _ _ _ _ (c .before .before .before .before .before .pre .1 .1) _ (c .before .before .short-size .ensures (c .before .if1 .taken)) (c .if2 .taken)
+data-object-returns t c = string-stored _ _ _ _ (c .before .before .before .before .before .before .pre .1 .1) _ (c .before .before .before .short-size .ensures (c .before .before .if1 .taken)) (eqb-true _ _ (sym (c .before .is-string .ensures) ∙ c .if2 .taken))
 
 data-object-add-data-run : (t : ℕ) → data-object-lts.Need-add-data-run (data-object-claims t) (data-object-at t) data-object.Post
 data-object-add-data-run t c = search needs
@@ -89,19 +96,19 @@ data-object-part-data-run-start : (t : ℕ) → data-object-lts.Need-part-data-r
 data-object-part-data-run-start t c = search needs
 
 data-object-part-data-run-end : (t : ℕ) → data-object-lts.Need-part-data-run-end (data-object-claims t) (data-object-at t) data-object.Post
-data-object-part-data-run-end t c = c .before .before .short-size .ensures (c .before .if1 .taken) .within
+data-object-part-data-run-end t c = c .before .before .before .short-size .ensures (c .before .before .if1 .taken) .within
 
 data-object-data-run-requires : (t : ℕ) → data-object-lts.Need-data-run-requires (data-object-claims t) (data-object-at t) data-object.Post
 data-object-data-run-requires t c κs =
-    let g = c .before .before .before .before .short-size .ensures (c .before .before .before .if1 .taken) in
+    let g = c .before .before .before .before .before .short-size .ensures (c .before .before .before .before .if1 .taken) in
     let n = g .within in
-    (simp (length-take, length-drop) (omega arith), (simp (length-take, length-drop) (omega arith), short-room _ _ _ (c .before .before .before .before .before .before .before .args .table .now) (c .before .before .before .before .before .before .before .pre .1 .1) _ g (c .before .before .if2 .left)))
+    (simp (length-take, length-drop) (omega arith), (simp (length-take, length-drop) (omega arith), short-room _ _ _ (c .before .before .before .before .before .before .before .before .args .table .now) (c .before .before .before .before .before .before .before .before .pre .1 .1) _ g (eqb-false _ _ (sym (c .before .before .before .is-string .ensures) ∙ c .before .before .if2 .left))))
 
 data-object-same-length : (t : ℕ) → data-object-lts.Need-same-length (data-object-claims t) (data-object-at t) data-object.Post
 data-object-same-length t c = search needs
 
 data-object-returns-2 : (t : ℕ) → data-object-lts.Need-returns-2 (data-object-claims t) (data-object-at t) data-object.Post
-data-object-returns-2 t c = short-stored _ _ _ _ (c .before .before .before .before .before .before .before .before .before .before .pre .1 .1) _ (c .before .before .before .before .before .before .before .short-size .ensures (c .before .before .before .before .before .before .if1 .taken)) (c .before .before .before .before .before .if2 .left) _ _ (c .before .before .data-run .ensures)
+data-object-returns-2 t c = short-stored _ _ _ _ (c .before .before .before .before .before .before .before .before .before .before .before .pre .1 .1) _ (c .before .before .before .before .before .before .before .before .short-size .ensures (c .before .before .before .before .before .before .before .if1 .taken)) (eqb-false _ _ (sym (c .before .before .before .before .before .before .is-string .ensures) ∙ c .before .before .before .before .before .if2 .left)) _ _ (c .before .before .data-run .ensures)
 
 data-object-head-of-requires : (t : ℕ) → data-object-lts.Need-head-of-requires (data-object-claims t) (data-object-at t) data-object.Post
 data-object-head-of-requires t c κs = search needs
@@ -255,6 +262,7 @@ pub +data-object+data-run-spec : {M : Type 1} → statement M
     data-object.Post
     (data-object-short-size-requires t)
     (data-object-add-end t)
+    (data-object-is-string-requires t)
     (data-object-returns t)
     (data-object-add-data-run t)
     (data-object-sub-data-run t)

@@ -1,6 +1,11 @@
--- `leap_from` meets its contract, for each class of small objects. Assumes nothing.
+-- `leap_from` meets its contract, class by class. Assumes nothing.
 use native.Mathlib.Omega.{arith}
-use Rattle.scan.proofs.Stretches.{chars-leapt, padding-leapt, late-leapt, no-leap}
+use mathlib.Core.Path.{refl, sym, subst, _∙_}
+use Rattle.format.specs.declared.Class.the-variants as C
+use Rattle.wire.proofs.ClassCases.{of-class}
+use Rattle.wire.proofs.RowsAt.{xtra-at, bool-at, empty-at}
+use Rattle.scan.specs.Stretch.{Leapt}
+use Rattle.scan.proofs.Stretches.{chars-leapt, smalls-leapt, padding-leapt, no-leap, row-leapt}
 use borrow.Author.Needs.{needs}
 use Rattle.scan.proofs.stretch.leap_from.Statement.{statement}
 use Rattle.scan.proofs.stretch.leap_from.Tie as tie
@@ -8,78 +13,167 @@ use Rattle.scan.proofs.stretch.leap_from.Tie as tie
 shared-slice-read-b : tie.Need-shared-slice-read-b
 shared-slice-read-b c = search needs
 
+class-of-requires : tie.Need-class-of-requires
+class-of-requires c κs = search needs
+
+enum-told : tie.Need-enum-told
+enum-told c = search needs
+
 until-requires : tie.Need-until-requires
 until-requires c κs = search needs
 
-sub-t9 : tie.Need-sub-t9
-sub-t9 c = search needs
+sub-stretch-to : tie.Need-sub-stretch-to
+sub-stretch-to c = search needs
 
-returns : tie.Need-returns
-returns c = let u = c .until .ensures in chars-leapt (c .before .before .before .before .args .s .now) _ _ (u .0) (u .1) (u .2)
+stretch-to-requires : tie.Need-stretch-to-requires
+stretch-to-requires c κs = search needs
+
+enum-told-2 : tie.Need-enum-told-2
+enum-told-2 c = search needs
+
+add-smalls-end : tie.Need-add-smalls-end
+add-smalls-end c = search needs
+
+smalls-end-requires : tie.Need-smalls-end-requires
+smalls-end-requires c κs = search needs
+
+sub-stretch-to-2 : tie.Need-sub-stretch-to-2
+sub-stretch-to-2 c = search needs
+
+stretch-to-requires-2 : tie.Need-stretch-to-requires-2
+stretch-to-requires-2 c κs = search needs
+
+enum-told-3 : tie.Need-enum-told-3
+enum-told-3 c = search needs
 
 ints-leap-requires : tie.Need-ints-leap-requires
-ints-leap-requires c κs = search needs
+ints-leap-requires c κs =
+    let r = of-class _ C.Linteger (sym (c .enum-told3 .given .1) ∙ c .before .before .class-of .ensures) in
+    (c .before .before .before .before .before .pre, refl, r .0, omega (arith, r .1))
 
-returns-2 : tie.Need-returns-2
-returns-2 c = search needs
+enum-told-4 : tie.Need-enum-told-4
+enum-told-4 c = search needs
 
-no-items-requires : tie.Need-no-items-requires
-no-items-requires c κs = search needs
+add-stretch-to : tie.Need-add-stretch-to
+add-stretch-to c = search needs
 
-returns-3 : tie.Need-returns-3
-returns-3 c = no-leap (c .before .before .before .before .before .before .args .s .now) _ _ (omega (arith, c .before .before .before .before .before .before .pre)) (c .no-items .ensures)
+stretch-to-requires-3 : tie.Need-stretch-to-requires-3
+stretch-to-requires-3 c κs = search needs
 
-ints-leap-requires-2 : tie.Need-ints-leap-requires-2
-ints-leap-requires-2 c κs = search needs
+enum-told-5 : tie.Need-enum-told-5
+enum-told-5 c = search needs
 
-returns-4 : tie.Need-returns-4
-returns-4 c = search needs
+add-stretch-to-2 : tie.Need-add-stretch-to-2
+add-stretch-to-2 c = search needs
 
-no-items-requires-2 : tie.Need-no-items-requires-2
-no-items-requires-2 c κs = search needs
+stretch-to-requires-4 : tie.Need-stretch-to-requires-4
+stretch-to-requires-4 c κs = search needs
 
-returns-5 : tie.Need-returns-5
-returns-5 c = no-leap (c .before .before .before .before .before .before .before .before .args .s .now) _ _ (omega (arith, c .before .before .before .before .before .before .before .before .pre)) (c .no-items2 .ensures)
+enum-told-6 : tie.Need-enum-told-6
+enum-told-6 c = search needs
+
+add-stretch-to-3 : tie.Need-add-stretch-to-3
+add-stretch-to-3 c = search needs
+
+stretch-to-requires-5 : tie.Need-stretch-to-requires-5
+stretch-to-requires-5 c κs = search needs
+
+enum-told-7 : tie.Need-enum-told-7
+enum-told-7 c = search needs
 
 padding-end-requires : tie.Need-padding-end-requires
 padding-end-requires c κs = search needs
 
-no-items-requires-3 : tie.Need-no-items-requires-3
-no-items-requires-3 c κs = search needs
+stretch-to-requires-6 : tie.Need-stretch-to-requires-6
+stretch-to-requires-6 c κs = search needs
+
+stretch-to-requires-7 : tie.Need-stretch-to-requires-7
+stretch-to-requires-7 c κs = search needs
+
+returns : tie.Need-returns
+returns c =
+    let s = c .before .before .before .before .before .before .before .args .s .now in
+    let i = c .before .before .before .before .before .before .before .args .i in
+    subst (Leapt s i) (sym (c .stretch-to .ensures)) (chars-leapt s i _ (c .before .until .ensures))
+
+returns-2 : tie.Need-returns-2
+returns-2 c =
+    let s = c .before .before .before .before .before .before .before .args .s .now in
+    let i = c .before .before .before .before .before .before .before .args .i in
+    let r = of-class _ C.Sinteger (sym (c .before .before .enum-told2 .given .1) ∙ c .before .before .before .before .class-of .ensures) in
+    subst (Leapt s i) (sym (c .stretch-to2 .ensures)) (smalls-leapt s i _ (r .0) (r .1) (c .before .smalls-end .ensures))
+
+returns-3 : tie.Need-returns-3
+returns-3 c = c .ints-leap .ensures
+
+returns-4 : tie.Need-returns-4
+returns-4 c =
+    let s = c .before .before .before .before .before .before .args .s .now in
+    let i = c .before .before .before .before .before .before .args .i in
+    let r = of-class _ C.Xtra (sym (c .before .enum-told4 .given .1) ∙ c .before .before .before .class-of .ensures) in
+    subst (Leapt s i) (sym (c .stretch-to3 .ensures)) (row-leapt s i _ _ (c .before .before .before .before .before .before .pre) (xtra-at _ _ (r .0) (r .1)))
+
+returns-5 : tie.Need-returns-5
+returns-5 c =
+    let s = c .before .before .before .before .before .before .args .s .now in
+    let i = c .before .before .before .before .before .before .args .i in
+    let r = of-class _ C.Bool (sym (c .before .enum-told5 .given .1) ∙ c .before .before .before .class-of .ensures) in
+    subst (Leapt s i) (sym (c .stretch-to4 .ensures)) (row-leapt s i _ _ (c .before .before .before .before .before .before .pre) (bool-at _ _ (r .0) (r .1)))
 
 returns-6 : tie.Need-returns-6
-returns-6 c = padding-leapt (c .before .before .before .before .before .before .before .before .before .before .args .s .now) _ _ _ (c .before .padding-end .ensures) (c .no-items3 .ensures)
-
-late-row-requires : tie.Need-late-row-requires
-late-row-requires c κs = search needs
-
-add-t11 : tie.Need-add-t11
-add-t11 c = search needs
+returns-6 c =
+    let s = c .before .before .before .before .before .before .args .s .now in
+    let i = c .before .before .before .before .before .before .args .i in
+    let r = of-class _ C.Empty (sym (c .before .enum-told6 .given .1) ∙ c .before .before .before .class-of .ensures) in
+    subst (Leapt s i) (sym (c .stretch-to5 .ensures)) (row-leapt s i _ _ (c .before .before .before .before .before .before .pre) (empty-at _ _ r))
 
 returns-7 : tie.Need-returns-7
 returns-7 c =
-    late-leapt (c .before .before .before .before .before .before .before .before .before .args .s .now) (c .before .before .before .before .before .before .before .before .before .args .i) _ (c .before .before .before .before .before .before .before .before .before .pre) (c .before .before .if5 .left) (omega (arith, c .before .before .before .before .before .before .before .before .shared-slice-known .given (c .before .before .before .before .before .before .before .before .before .args .i)))
-    (c .late-row .ensures .0)
+    let s = c .before .before .before .before .before .before .before .args .s .now in
+    let i = c .before .before .before .before .before .before .before .args .i in
+    subst (Leapt s i) (sym (c .stretch-to6 .ensures)) (padding-leapt s i _ (c .before .padding-end .ensures))
+
+returns-8 : tie.Need-returns-8
+returns-8 c =
+    let s = c .before .before .before .before .before .args .s .now in
+    let i = c .before .before .before .before .before .args .i in
+    subst (Leapt s i) (sym (c .stretch-to7 .ensures)) (no-leap s i (omega (arith, c .before .before .before .before .before .pre)))
 
 pub leap-from-spec : {M : Type 1} → statement M
 leap-from-spec =
     tie.close
     (tie.spec
     shared-slice-read-b
+    class-of-requires
+    enum-told
     until-requires
-    sub-t9
-    returns
+    sub-stretch-to
+    stretch-to-requires
+    enum-told-2
+    add-smalls-end
+    smalls-end-requires
+    sub-stretch-to-2
+    stretch-to-requires-2
+    enum-told-3
     ints-leap-requires
-    returns-2
-    no-items-requires
-    returns-3
-    ints-leap-requires-2
-    returns-4
-    no-items-requires-2
-    returns-5
+    enum-told-4
+    add-stretch-to
+    stretch-to-requires-3
+    enum-told-5
+    add-stretch-to-2
+    stretch-to-requires-4
+    enum-told-6
+    add-stretch-to-3
+    stretch-to-requires-5
+    enum-told-7
     padding-end-requires
-    no-items-requires-3
+    stretch-to-requires-6
+    stretch-to-requires-7
+    returns
+    returns-2
+    returns-3
+    returns-4
+    returns-5
     returns-6
-    late-row-requires
-    add-t11
-    returns-7)
+    returns-7
+    returns-8)

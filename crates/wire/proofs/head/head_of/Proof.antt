@@ -11,8 +11,8 @@ use borrow.Author.Needs.{needs}
 use Rattle.wire.proofs.head.head_of.Statement.{statement}
 use Rattle.wire.proofs.head.head_of.Tie as tie
 
-told-class-requires : tie.Need-told-class-requires
-told-class-requires c κs = search needs
+class-of-requires : tie.Need-class-of-requires
+class-of-requires c κs = search needs
 
 enum-told : tie.Need-enum-told
 enum-told c = search needs
@@ -94,90 +94,90 @@ enum-told-15 c = search needs
 
 returns : tie.Need-returns
 returns c =
-    by-class (c .before .before .before .before .args .depth) (c .before .before .before .before .args .b) (c .before .before .before .before .args .s .now) (Row 3 (c .before .before .before .before .args .b) 0) C.Char7 (sym (c .enum-told .given .1) ∙ c .before .before .told-class .ensures)
+    by-class (c .before .before .before .before .args .depth) (c .before .before .before .before .args .b) (c .before .before .before .before .args .s .now) (Row 3 (c .before .before .before .before .args .b) 0) C.Char7 (sym (c .enum-told .given .1) ∙ c .before .before .class-of .ensures)
     (char-row (c .before .before .before .before .args .depth) (c .before .before .before .before .args .b) (c .before .before .before .before .args .s .now))
 
 returns-2 : tie.Need-returns-2
 returns-2 c =
-    by-class (c .before .before .before .before .args .depth) (c .before .before .before .before .args .b) (c .before .before .before .before .args .s .now) (Row 1 (c .before .before .before .before .args .b % 64) 0) C.Sinteger (sym (c .enum-told2 .given .1) ∙ c .before .before .told-class .ensures)
-    (sinteger-row (c .before .before .before .before .args .depth) (c .before .before .before .before .args .b) (c .before .before .before .before .args .s .now) (subst (InClass (c .before .before .before .before .args .b)) (sym (sym (c .enum-told2 .given .1) ∙ c .before .before .told-class .ensures)) (in-class (c .before .before .before .before .args .b))))
+    by-class (c .before .before .before .before .args .depth) (c .before .before .before .before .args .b) (c .before .before .before .before .args .s .now) (Row 1 (c .before .before .before .before .args .b % 64) 0) C.Sinteger (sym (c .enum-told2 .given .1) ∙ c .before .before .class-of .ensures)
+    (sinteger-row (c .before .before .before .before .args .depth) (c .before .before .before .before .args .b) (c .before .before .before .before .args .s .now) (subst (InClass (c .before .before .before .before .args .b)) (sym (sym (c .enum-told2 .given .1) ∙ c .before .before .class-of .ensures)) (in-class (c .before .before .before .before .args .b))))
 
 returns-3 : tie.Need-returns-3
 returns-3 c =
-    by-class (c .before .before .before .before .before .args .depth) (c .before .before .before .before .before .args .b) (c .before .before .before .before .before .args .s .now) (c .linteger .result) C.Linteger (sym (c .before .enum-told3 .given .1) ∙ c .before .before .before .told-class .ensures)
+    by-class (c .before .before .before .before .before .args .depth) (c .before .before .before .before .before .args .b) (c .before .before .before .before .before .args .s .now) (c .linteger .result) C.Linteger (sym (c .before .enum-told3 .given .1) ∙ c .before .before .before .class-of .ensures)
     (c .linteger .ensures)
 
 returns-4 : tie.Need-returns-4
 returns-4 c =
-    by-class (c .before .before .before .before .before .args .depth) (c .before .before .before .before .before .args .b) (c .before .before .before .before .before .args .s .now) (c .sbitstr .result) C.Sbitstr (sym (c .before .enum-told4 .given .1) ∙ c .before .before .before .told-class .ensures)
+    by-class (c .before .before .before .before .before .args .depth) (c .before .before .before .before .before .args .b) (c .before .before .before .before .before .args .s .now) (c .sbitstr .result) C.Sbitstr (sym (c .before .enum-told4 .given .1) ∙ c .before .before .before .class-of .ensures)
     (c .sbitstr .ensures)
 
 returns-5 : tie.Need-returns-5
 unfolding headBy
 returns-5 c =
-    by-class (c .before .before .before .before .before .args .depth) (c .before .before .before .before .before .args .b) (c .before .before .before .before .before .args .s .now) (c .lbitstr .result) C.Lbitstr (sym (c .before .enum-told5 .given .1) ∙ c .before .before .before .told-class .ensures)
+    by-class (c .before .before .before .before .before .args .depth) (c .before .before .before .before .before .args .b) (c .before .before .before .before .before .args .s .now) (c .lbitstr .result) C.Lbitstr (sym (c .before .enum-told5 .given .1) ∙ c .before .before .before .class-of .ensures)
     (c .lbitstr .ensures)
 
 returns-6 : tie.Need-returns-6
 unfolding headBy
 returns-6 c =
-    by-class (c .before .before .before .before .before .args .depth) (c .before .before .before .before .before .args .b) (c .before .before .before .before .before .args .s .now) (c .string .result) C.String (sym (c .before .enum-told6 .given .1) ∙ c .before .before .before .told-class .ensures)
+    by-class (c .before .before .before .before .before .args .depth) (c .before .before .before .before .before .args .b) (c .before .before .before .before .before .args .s .now) (c .string .result) C.String (sym (c .before .enum-told6 .given .1) ∙ c .before .before .before .class-of .ensures)
     (c .string .ensures)
 
 returns-7 : tie.Need-returns-7
 unfolding headBy wrapOf
 returns-7 c =
-    by-class (c .before .before .before .before .before .args .depth) (c .before .before .before .before .before .args .b) (c .before .before .before .before .before .args .s .now) (c .group .result) C.Struc (sym (c .before .enum-told7 .given .1) ∙ c .before .before .before .told-class .ensures)
+    by-class (c .before .before .before .before .before .args .depth) (c .before .before .before .before .before .args .b) (c .before .before .before .before .before .args .s .now) (c .group .result) C.Struc (sym (c .before .enum-told7 .given .1) ∙ c .before .before .before .class-of .ensures)
     (c .group .ensures)
 
 returns-8 : tie.Need-returns-8
 unfolding headBy wrapOf
 returns-8 c =
-    by-class (c .before .before .before .before .before .args .depth) (c .before .before .before .before .before .args .b) (c .before .before .before .before .before .args .s .now) (c .group2 .result) C.Ustruc (sym (c .before .enum-told8 .given .1) ∙ c .before .before .before .told-class .ensures)
+    by-class (c .before .before .before .before .before .args .depth) (c .before .before .before .before .before .args .b) (c .before .before .before .before .before .args .s .now) (c .group2 .result) C.Ustruc (sym (c .before .enum-told8 .given .1) ∙ c .before .before .before .class-of .ensures)
     (c .group2 .ensures)
 
 returns-9 : tie.Need-returns-9
 unfolding headBy wrapOf
 returns-9 c =
-    by-class (c .before .before .before .before .before .args .depth) (c .before .before .before .before .before .args .b) (c .before .before .before .before .before .args .s .now) (c .group3 .result) C.Edt (sym (c .before .enum-told9 .given .1) ∙ c .before .before .before .told-class .ensures)
+    by-class (c .before .before .before .before .before .args .depth) (c .before .before .before .before .before .args .b) (c .before .before .before .before .before .args .s .now) (c .group3 .result) C.Edt (sym (c .before .enum-told9 .given .1) ∙ c .before .before .before .class-of .ensures)
     (c .group3 .ensures)
 
 returns-10 : tie.Need-returns-10
 unfolding headBy
 returns-10 c =
-    by-class (c .before .before .before .before .before .args .depth) (c .before .before .before .before .before .args .b) (c .before .before .before .before .before .args .s .now) (c .repeat .result) C.Repeat (sym (c .before .enum-told10 .given .1) ∙ c .before .before .before .told-class .ensures)
+    by-class (c .before .before .before .before .before .args .depth) (c .before .before .before .before .before .args .b) (c .before .before .before .before .before .args .s .now) (c .repeat .result) C.Repeat (sym (c .before .enum-told10 .given .1) ∙ c .before .before .before .class-of .ensures)
     (c .repeat .ensures)
 
 returns-11 : tie.Need-returns-11
 returns-11 c =
-    by-class (c .before .before .before .before .args .depth) (c .before .before .before .before .args .b) (c .before .before .before .before .args .s .now) (Row 6 (c .before .before .before .before .args .b % 4) 0) C.Xtra (sym (c .enum-told11 .given .1) ∙ c .before .before .told-class .ensures)
-    (xtra-row (c .before .before .before .before .args .depth) (c .before .before .before .before .args .b) (c .before .before .before .before .args .s .now) (subst (InClass (c .before .before .before .before .args .b)) (sym (sym (c .enum-told11 .given .1) ∙ c .before .before .told-class .ensures)) (in-class (c .before .before .before .before .args .b))))
+    by-class (c .before .before .before .before .args .depth) (c .before .before .before .before .args .b) (c .before .before .before .before .args .s .now) (Row 6 (c .before .before .before .before .args .b % 4) 0) C.Xtra (sym (c .enum-told11 .given .1) ∙ c .before .before .class-of .ensures)
+    (xtra-row (c .before .before .before .before .args .depth) (c .before .before .before .before .args .b) (c .before .before .before .before .args .s .now) (subst (InClass (c .before .before .before .before .args .b)) (sym (sym (c .enum-told11 .given .1) ∙ c .before .before .class-of .ensures)) (in-class (c .before .before .before .before .args .b))))
 
 returns-12 : tie.Need-returns-12
 returns-12 c =
-    by-class (c .before .before .before .before .args .depth) (c .before .before .before .before .args .b) (c .before .before .before .before .args .s .now) (Row 4 (c .before .before .before .before .args .b % 2) 0) C.Bool (sym (c .enum-told12 .given .1) ∙ c .before .before .told-class .ensures)
-    (bool-row (c .before .before .before .before .args .depth) (c .before .before .before .before .args .b) (c .before .before .before .before .args .s .now) (subst (InClass (c .before .before .before .before .args .b)) (sym (sym (c .enum-told12 .given .1) ∙ c .before .before .told-class .ensures)) (in-class (c .before .before .before .before .args .b))))
+    by-class (c .before .before .before .before .args .depth) (c .before .before .before .before .args .b) (c .before .before .before .before .args .s .now) (Row 4 (c .before .before .before .before .args .b % 2) 0) C.Bool (sym (c .enum-told12 .given .1) ∙ c .before .before .class-of .ensures)
+    (bool-row (c .before .before .before .before .args .depth) (c .before .before .before .before .args .b) (c .before .before .before .before .args .s .now) (subst (InClass (c .before .before .before .before .args .b)) (sym (sym (c .enum-told12 .given .1) ∙ c .before .before .class-of .ensures)) (in-class (c .before .before .before .before .args .b))))
 
 returns-13 : tie.Need-returns-13
 returns-13 c =
-    by-class (c .before .before .before .before .args .depth) (c .before .before .before .before .args .b) (c .before .before .before .before .args .s .now) (Row 5 0 0) C.Empty (sym (c .enum-told13 .given .1) ∙ c .before .before .told-class .ensures)
+    by-class (c .before .before .before .before .args .depth) (c .before .before .before .before .args .b) (c .before .before .before .before .args .s .now) (Row 5 0 0) C.Empty (sym (c .enum-told13 .given .1) ∙ c .before .before .class-of .ensures)
     (empty-row (c .before .before .before .before .args .depth) (c .before .before .before .before .args .b) (c .before .before .before .before .args .s .now))
 
 returns-14 : tie.Need-returns-14
 returns-14 c =
-    by-class (c .before .before .before .before .args .depth) (c .before .before .before .before .args .b) (c .before .before .before .before .args .s .now) (Gap) C.Padding (sym (c .enum-told14 .given .1) ∙ c .before .before .told-class .ensures)
+    by-class (c .before .before .before .before .args .depth) (c .before .before .before .before .args .b) (c .before .before .before .before .args .s .now) (Gap) C.Padding (sym (c .enum-told14 .given .1) ∙ c .before .before .class-of .ensures)
     (padding-gap (c .before .before .before .before .args .depth) (c .before .before .before .before .args .b) (c .before .before .before .before .args .s .now))
 
 returns-15 : tie.Need-returns-15
 returns-15 c =
-    by-class (c .before .before .before .before .args .depth) (c .before .before .before .before .args .b) (c .before .before .before .before .args .s .now) (Stop 4 0) C.Reserved (sym (c .enum-told15 .given .1) ∙ c .before .before .told-class .ensures)
+    by-class (c .before .before .before .before .args .depth) (c .before .before .before .before .args .b) (c .before .before .before .before .args .s .now) (Stop 4 0) C.Reserved (sym (c .enum-told15 .given .1) ∙ c .before .before .class-of .ensures)
     (reserved-stop (c .before .before .before .before .args .depth) (c .before .before .before .before .args .b) (c .before .before .before .before .args .s .now))
 
 pub head-of-spec : {M : Type 1} → statement M
 head-of-spec =
     tie.close
     (tie.spec
-    told-class-requires
+    class-of-requires
     enum-told
     enum-told-2
     cast-t8

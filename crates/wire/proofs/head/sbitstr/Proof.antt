@@ -1,9 +1,10 @@
 -- `head::sbitstr` meets its contract. Assumes nothing.
 use native.Mathlib.Omega.{arith}
-use mathlib.Core.Path.{refl}
-use lib.Count.{leading-le}
+use mathlib.Core.Path.{ap, _∙_}
+use Prim.Native.Nat.{_-_, _*_, _<_}
 use lib.ListN.{getD}
 use Rattle.format.proofs.Digits.{bytes-of}
+use Rattle.format.proofs.OnesLaws.{zeros-ones}
 use Rattle.wire.proofs.ShortBits.{zeros-few}
 use Rattle.wire.proofs.HeadLaws.{sbitstr-stop, sbitstr-bad, sbitstr-short}
 use borrow.Author.Needs.{needs}
@@ -25,8 +26,11 @@ shared-slice-read-first c = search needs
 returns-2 : tie.Need-returns-2
 returns-2 c = sbitstr-bad (c .before .before .before .before .before .args .depth) (c .before .before .before .before .before .args .b) (c .before .before .before .following-of .result) (c .before .before .before .before .before .args .s .now) (c .before .before .before .following-of .ensures .0) (omega arith) (c .if2 .taken)
 
+ones-of-requires : tie.Need-ones-of-requires
+ones-of-requires c κs = search needs
+
 cast-zeros : tie.Need-cast-zeros
-cast-zeros c = omega (arith, leading-le 8 (getD (c .before .before .before .before .before .args .s .now) 0 0))
+cast-zeros c = search needs
 
 mul-n : tie.Need-mul-n
 mul-n c = search needs
@@ -35,7 +39,10 @@ sub-n : tie.Need-sub-n
 sub-n c = search needs
 
 sub-n-2 : tie.Need-sub-n-2
-sub-n-2 c = omega (arith, zeros-few (getD (c .before .before .before .before .before .args .s .now) 0 0) (omega (arith, c .before .shared-slice-known2 .given 0)) (c .if2 .left))
+sub-n-2 c =
+    let b = getD (c .before .before .before .before .before .before .args .s .now) 0 0 in
+    let l : b < 256 = omega (arith, c .before .before .shared-slice-known2 .given 0) in
+    omega (arith, c .ones-of .ensures, zeros-ones b l, zeros-few b l (c .before .if2 .left))
 
 number-requires : tie.Need-number-requires
 number-requires c κs = search needs
@@ -45,8 +52,11 @@ short-word-requires c κs = search needs
 
 returns-3 : tie.Need-returns-3
 returns-3 c =
-    sbitstr-short (c .before .before .before .before .before .before .before .args .depth) (c .before .before .before .before .before .before .before .args .b) (c .before .before .before .before .before .following-of .result) _ (c .before .number .result) (c .short-word .result) (c .before .before .before .before .before .before .before .args .s .now)
-    (bytes-of (c .before .before .before .before .before .before .before .args .s .now) (λ i. omega (arith, c .before .before .before .before .before .before .shared-slice-known .given i))) (c .before .before .before .before .before .following-of .ensures .0) (omega arith) (c .before .before .if2 .left) refl
+    let s = c .before .before .before .before .before .before .before .before .args .s .now in
+    let l : getD s 0 0 < 256 = omega (arith, c .before .before .before .before .shared-slice-known2 .given 0) in
+    sbitstr-short (c .before .before .before .before .before .before .before .before .args .depth) (c .before .before .before .before .before .before .before .before .args .b) (c .before .before .before .before .before .before .following-of .result) _ (c .before .number .result) (c .short-word .result) s
+    (bytes-of s (λ i. omega (arith, c .before .before .before .before .before .before .before .shared-slice-known .given i))) (c .before .before .before .before .before .before .following-of .ensures .0) (omega arith) (c .before .before .before .if2 .left)
+    (ap (λ n. 8 * c .before .before .before .before .before .before .following-of .result - 1 - n) (c .before .before .ones-of .ensures ∙ zeros-ones (getD s 0 0) l))
     (c .before .number .ensures .0) (c .short-word .ensures .0) (c .short-word .ensures .1)
 
 pub sbitstr-spec : {M : Type 1} → statement M
@@ -58,6 +68,7 @@ sbitstr-spec =
     returns
     shared-slice-read-first
     returns-2
+    ones-of-requires
     cast-zeros
     mul-n
     sub-n

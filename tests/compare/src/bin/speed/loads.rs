@@ -55,6 +55,21 @@ fn measure_sheet() -> Vec<u8> {
     )
 }
 
+/// One object of each atomic class, so that no two neighbours are of one class.
+fn each_atomic() -> Vec<u8> {
+    [
+        &[0x41][..],
+        &[0x81],
+        &[0xE2, 0x01, 0x40],
+        &[0xF1, 0x06],
+        &[0xF9],
+        &[0xFD],
+        &[0xFE],
+        &[0xFF],
+    ]
+    .concat()
+}
+
 /// A letter with some of everything in it.
 fn letter() -> Vec<u8> {
     let date = sized(0xC3, &[0x87, 0x81, 0xE2, 0x07, 0xB8, 0x84, 0x86]);
@@ -99,6 +114,7 @@ pub fn loads() -> Vec<Load> {
         ),
         load("three rows with bits, 5,461 times", sized(0xC2, &pattern)),
         load("64 KB of padding", vec![0xFF; 65_536]),
+        load("atomic classes by turns", each_atomic().repeat(2_340)),
         load("a mixed message", letter().repeat(160)),
         load("one measure sheet", measure_sheet()),
         load("seven hundred of them", measure_sheet().repeat(700)),
