@@ -3,7 +3,7 @@ use Prim.Native.Nat.{ℕ, zero, suc, _+_, _-_, _*_, _/_, _%_, _≤_, _<_, zero-l
 use native.Mathlib.Omega.{arith}
 use native.Mathlib.Nat.{le-refl, add-zero}
 use mathlib.Core.Path.{_≡_, refl, sym, ap, ap₂, _∙_, subst}
-use mathlib.Core.Bool.{Bool, false, not}
+use mathlib.Core.Bool.{Bool, true}
 use mathlib.Core.List.{List, [], _∷_, _++_, append-assoc, append-nil}
 use lib.Dec.{eqb}
 use lib.ListN.{length, take, drop, getD, length-append, length-drop}
@@ -14,7 +14,7 @@ use Rattle.format.specs.Objects.{contents, following, integer}
 use Rattle.format.specs.Messages.{object, got, onto, next, reads}
 use Rattle.format.specs.Tables.{rows, count, dataWords, rowWords}
 use Rattle.format.specs.Answers.{over}
-use Rattle.format.proofs.Choices.{split, true-eq}
+use Rattle.format.proofs.Choices.{split}
 use Rattle.format.proofs.Counts.{words, join-end, rows-join, count-join, words-join, row-words-join}
 use Rattle.format.proofs.Parts.{rest-part}
 use Rattle.format.proofs.Steps.{objectAt}
@@ -22,8 +22,7 @@ use Rattle.format.proofs.TableLaws.{row-length}
 use Rattle.wire.specs.Ranges.{Between}
 use Rattle.wire.specs.Heads.{IsRow, RowAt}
 use Rattle.wire.proofs.Ranges.{between-none, between-join, between-next}
-use Rattle.wire.proofs.ShortLaws.{held}
-use Rattle.wire.proofs.RowsAt.{char-at, small-at, long-at, xtra-at, bool-at, empty-at}
+use Rattle.wire.proofs.RowsAt.{char-at, small-at, long-byte, long-at, xtra-at, bool-at, empty-at}
 use Rattle.fill.specs.declared.stretch.Stretch.{Stretch}
 use Rattle.fill.specs.Stretch.{Ranged, LongOf, Bare, Stretched}
 use Rattle.fill.proofs.Over.{over-self, over-length, grown}
@@ -50,8 +49,8 @@ pub small-range : Ranged 0x80 0xbf 1
 small-range b s g h = let e : b - 0x80 ≡ b % 64 = omega arith in rw e (small-at b s g (omega arith))
 
 -- an LINTEGER's type-byte, as the code tells it
-pub long-of : (b k : ℕ) (t : Bool) → t ≡ eqb (b / 8) 0x1c → not t ≡ false → k ≡ following b → LongOf b k
-long-of b k t e n f = let q : b / 8 ≡ 0x1c = true-eq (b / 8) 0x1c (sym e ∙ held t n) in (omega arith, omega arith, f)
+pub long-of : (b k : ℕ) (t : Bool) → t ≡ eqb (b / 8) 0x1c → t ≡ true → k ≡ following b → LongOf b k
+long-of b k t e h f = let r = long-byte b t e h in (r .0, r .1, f)
 
 -- ---- bytes without data words
 gap-object : (d b : ℕ) (s : List ℕ) → 0xff ≤ b → b ≤ 0xff → objectAt d b s ≡ got end 0

@@ -11,6 +11,8 @@ use format::signed::word_of;
 use format::tree::class_of;
 use wire::integer::following_of;
 use wire::integer::integer_of;
+use wire::integer::is_linteger;
+use wire::integer::is_sinteger;
 use wire::padding::padding_end;
 
 // Where a stretch ends, and how many rows it has.
@@ -92,11 +94,22 @@ fn put_same(s: &[u8], i: usize, table: &mut [u64], used: usize, b: u8, k: usize)
 }
 
 // The rows of the objects of one class from i on, or padding; nothing where another object stands there, or an integer cut short.
+// Integers, which most items are, are told first.
 fn put_class(s: &[u8], i: usize, table: &mut [u64], used: usize) -> Stretch
     requires { ⌜ (i < length (now s)) × (used + 3 ≤ length (now table)) ⌝ }
     ensures { λ r. ⌜ Stretched (now (s .entry)) i used (now (table .entry)) (now (table .exit)) (r .upto) (r .rows) ⌝ }
 {
     let b = s[i];
+    if is_sinteger(b) {
+        let n = put_range(s, i, table, used, 0x80, 0xbf, 1);
+        return Stretch {
+            upto: i + n,
+            rows: n,
+        };
+    }
+    if is_linteger(b) {
+        return put_same(s, i, table, used, b, following_of(b));
+    }
     let class = class_of(b);
     match class {
         Class::Char7 => {
@@ -106,14 +119,6 @@ fn put_class(s: &[u8], i: usize, table: &mut [u64], used: usize) -> Stretch
                 rows: n,
             }
         }
-        Class::Sinteger => {
-            let n = put_range(s, i, table, used, 0x80, 0xbf, 1);
-            Stretch {
-                upto: i + n,
-                rows: n,
-            }
-        }
-        Class::Linteger => put_same(s, i, table, used, b, following_of(b)),
         Class::Xtra => put_one(table, used, i, 6, (b % 4) as u64),
         Class::Bool => put_one(table, used, i, 4, (b % 2) as u64),
         Class::Empty => put_one(table, used, i, 5, 0),

@@ -1,5 +1,4 @@
 // The walk of the data words, in the order of the rows.
-ghost use mathlib.Core.Path.{_≡_};
 ghost use Prim.Native.Nat.{_+_, _≤_, _<_};
 ghost use lib.ListN.{length};
 ghost use Rattle.fill.specs.Stretch.{Bare};

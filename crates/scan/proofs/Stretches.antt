@@ -168,6 +168,26 @@ module _ (s : List ℕ) where
             ∙ ap (λ z. next (object (λ a m. reads (suc d) (contents (drop (i + 1) s) a m)) z) (λ w. reads d (drop (i + (1 + w)) s))) (r .head d));
       }
 
+  many-counted : (i e : ℕ) → i ≤ e → e ≤ length s → Many s (oneOf 1 1 0) i (e - i) → Counted s i e (e - i)
+  many-counted i e p q m =
+      let k : i + (e - i) ≡ e = omega arith in
+      record {
+        items = m .items;
+        sum-is = m .sum-is;
+        from = p;
+        to = q;
+        few = omega arith;
+        over = λ d. m .over d ∙ ap (λ n. onto (m .items) (e - i) (reads d (drop n s))) k;
+      }
+
+  -- one, and as many more as there are
+  pub counted-smalls : (i e : ℕ) → 0x80 ≤ getD s i 0 → getD s i 0 ≤ 0xbf → (i + 1 ≤ e) × (e ≤ length s) × Between 0x80 0xbf (i + 1) e s → Counted s i e (e - i)
+  counted-smalls i e l g w =
+      let p : i ≤ e = omega (arith, w .0) in
+      many-counted i e p (w .1)
+      (each-byte 0x80 0xbf (oneOf 1 1 0) a-small s i e p (w .1)
+      (between-join 0x80 0xbf i (i + 1) e s (between-next 0x80 0xbf i i s (between-none 0x80 0xbf i s) l g) (w .2)))
+
   -- n bytes, the type-byte b with them
   pub counted-long : (i b n : ℕ) → getD s i 0 ≡ b → 0xe0 ≤ b → b ≤ 0xe7 → n ≡ 1 + following b → n ≤ length s - i → Counted s i (i + n) 1
   counted-long i b n e g l k h =
@@ -194,14 +214,6 @@ many-leapt s k i e p q m =
 
 pub chars-leapt : (s : List ℕ) (i e : ℕ) → (i ≤ e) × (e ≤ length s) × Between 0 0x7f i e s → Leapt s i (record { upto = e; kind = 3; many = e - i })
 chars-leapt s i e h = many-leapt s 3 i e (h .0) (h .1) (each-byte 0 0x7f (oneOf 3 1 0) a-char s i e (h .0) (h .1) (h .2))
-
--- one SINTEGER, and as many more as there are
-pub smalls-leapt : (s : List ℕ) (i e : ℕ) → 0x80 ≤ getD s i 0 → getD s i 0 < 0xc0 → (i + 1 ≤ e) × (e ≤ length s) × Between 0x80 0xbf (i + 1) e s
-    → Leapt s i (record { upto = e; kind = 1; many = e - i })
-smalls-leapt s i e l g h =
-    let p : i ≤ e = omega (arith, h .0) in
-    let b = between-join 0x80 0xbf i (i + 1) e s (between-next 0x80 0xbf i i s (between-none 0x80 0xbf i s) l (omega arith)) (h .2) in
-    many-leapt s 1 i e p (h .1) (each-byte 0x80 0xbf (oneOf 1 1 0) a-small s i e p (h .1) b)
 
 -- no items: padding, or nothing at all
 pub padding-leapt : (s : List ℕ) (i e : ℕ) → (i ≤ e) × (e ≤ length s) × Between 0xff 0xff i e s → Leapt s i (record { upto = e; kind = 0; many = 0 })

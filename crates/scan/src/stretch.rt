@@ -2,7 +2,7 @@
 ghost use mathlib.Core.Path.{_≡_};
 ghost use mathlib.Core.Bool.{true};
 ghost use Prim.Native.Nat.{_+_, _≤_, _<_};
-ghost use lib.ListN.{length, getD};
+ghost use lib.ListN.{length};
 ghost use Rattle.format.specs.Objects.{following};
 ghost use Rattle.wire.specs.Ranges.{Between};
 ghost use Rattle.scan.specs.Stretch.{Counted, Leapt};
@@ -14,6 +14,8 @@ use super::summary::XTRA;
 use format::Class;
 use format::tree::class_of;
 use wire::integer::following_of;
+use wire::integer::is_linteger;
+use wire::integer::is_sinteger;
 use wire::padding::padding_end;
 use wire::span::until;
 
@@ -53,12 +55,13 @@ fn same_ints(s: &[u8], i: usize, b: u8, size: usize) -> Ints
     Ints { upto: e, many }
 }
 
-// Where the SINTEGERs from i on end. One byte tells where there is none.
+// How far the SINTEGERs from i on are passed: all of them where many bytes are left, else none. One byte tells where there is
+// none.
 fn smalls_end(s: &[u8], i: usize) -> usize
     requires { ⌜ i ≤ length (now s) ⌝ }
     ensures { λ r. ⌜ (i ≤ r) × (r ≤ length (now (s .entry))) × Between 0x80 0xbf i r (now (s .entry)) ⌝ }
 {
-    if i == s.len() {
+    if s.len() - i < 64 {
         return i;
     }
     let b = s[i];
@@ -68,7 +71,43 @@ fn smalls_end(s: &[u8], i: usize) -> usize
     if b > 0xbf {
         return i;
     }
-    until(s, i + 1, 0x80, 0xbf)
+    until(s, i, 0x80, 0xbf)
+}
+
+// The integers from i on, of one byte or more, as far as they are whole. Where many bytes are left, those of one class or of one
+// type-byte are passed together.
+fn ints_from(s: &[u8], i: usize) -> Ints
+    requires { ⌜ i ≤ length (now s) ⌝ }
+    ensures { λ r. ⌜ Counted (now (s .entry)) i (r .upto) (r .many) ⌝ }
+{
+    let mut e = i;
+    let mut many: usize = 0;
+    while e < s.len() {
+        let b = s[e];
+        let left = s.len() - e;
+        if is_sinteger(b) {
+            let r = smalls_end(s, e + 1);
+            many += r - e;
+            e = r;
+            continue;
+        }
+        if !is_linteger(b) {
+            return Ints { upto: e, many };
+        }
+        let size = 1 + following_of(b);
+        if left >= 64 {
+            let l = same_ints(s, e + size, b, size);
+            e = l.upto;
+            many += 1 + l.many;
+            continue;
+        }
+        if left < size {
+            return Ints { upto: e, many };
+        }
+        e += size;
+        many += 1;
+    }
+    Ints { upto: e, many }
 }
 
 // Whether all bytes are CHAR7.
@@ -82,20 +121,17 @@ pub fn all_chars(s: &[u8]) -> bool
     until(s, 0, 0, 0x7f) == s.len()
 }
 
-// The LINTEGERs from i on whose type-byte is that of the first; none where it is cut short.
-fn ints_leap(s: &[u8], i: usize, b: u8) -> Leap
-    requires { ⌜ (i < length (now s)) × (b ≡ getD (now s) i 0) × (0xe0 ≤ b) × (b ≤ 0xe7) ⌝ }
+// The stretch of integers that starts at i.
+fn ints_leap(s: &[u8], i: usize) -> Leap
+    requires { ⌜ i ≤ length (now s) ⌝ }
     ensures { λ r. ⌜ Leapt (now (s .entry)) i r ⌝ }
 {
-    let size = 1 + following_of(b);
-    if s.len() - i < size {
-        return stretch_to(i, 0, 0);
-    }
-    let l = same_ints(s, i + size, b, size);
-    stretch_to(l.upto, INT, 1 + l.many)
+    let l = ints_from(s, i);
+    stretch_to(l.upto, INT, l.many)
 }
 
-// The stretch that starts at i: objects of one class and one kind, or padding; of no bytes where another object starts there.
+// The stretch that starts at i: CHAR7s, integers of both classes, one item of another one-byte class, or padding; of no bytes where
+// another object starts there.
 pub fn leap_from(s: &[u8], i: usize) -> Leap
     requires { ⌜ i < length (now s) ⌝ }
     ensures { λ r. ⌜ Leapt (now (s .entry)) i r ⌝ }
@@ -107,11 +143,8 @@ pub fn leap_from(s: &[u8], i: usize) -> Leap
             let e = until(s, i, 0, 0x7f);
             stretch_to(e, CHAR, e - i)
         }
-        Class::Sinteger => {
-            let e = smalls_end(s, i + 1);
-            stretch_to(e, INT, e - i)
-        }
-        Class::Linteger => ints_leap(s, i, b),
+        Class::Sinteger => ints_leap(s, i),
+        Class::Linteger => ints_leap(s, i),
         Class::Xtra => stretch_to(i + 1, XTRA, 1),
         Class::Bool => stretch_to(i + 1, BOOL, 1),
         Class::Empty => stretch_to(i + 1, EMPTY, 1),

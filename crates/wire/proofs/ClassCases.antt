@@ -1,6 +1,6 @@
 -- Type-bytes told by a match on their class. Assumes nothing.
 use Prim.Native.Nat.{ℕ}
-use mathlib.Core.Path.{_≡_, sym, ap, subst, _∙_}
+use mathlib.Core.Path.{_≡_, sym, subst, _∙_}
 use mathlib.Core.Bool.{Bool, true, false, not}
 use mathlib.Core.List.{List, [], _∷_}
 use lib.Dec.{T, eqb}
@@ -38,9 +38,9 @@ besides cs = kept (tags cs) (0 ∷ 1 ∷ 2 ∷ 3 ∷ 4 ∷ 5 ∷ 6 ∷ 7 ∷ 8 �
 pub apart : (cs : List Class) (c x : Class) → T (not (hasKey (besides cs) (tagOf the-type x))) → OneOf (besides cs) (tagOf the-type c) → x ≡ c → ⊥
 apart cs c x m k e = miss (besides cs) (tagOf the-type x) m (subst (λ z. OneOf (besides cs) (tagOf the-type z)) (sym e) k)
 
--- a class of one byte x, told by it
-pub told : (c : Class) (x b : ℕ) → (InClass b c → b ≡ x) → c ≡ classOf b → true ≡ eqb b x
-told c x b f e = sym (eq-true b x (f (of-class b c e)))
+-- ---- a class told by a number n that is x for its bytes alone
+pub told : (c : Class) (b n x : ℕ) → (InClass b c → n ≡ x) → c ≡ classOf b → true ≡ eqb n x
+told c b n x f e = sym (eq-true n x (f (of-class b c e)))
 
-pub told-not : (c r : Class) (x b : ℕ) → c ≡ classOf x → (c ≡ r → ⊥) → r ≡ classOf b → false ≡ eqb b x
-told-not c r x b e n g = sym (eq-false b x (λ q. n (e ∙ ap classOf (sym q) ∙ sym g)))
+pub told-not : (c r : Class) (b n x : ℕ) → (n ≡ x → classOf b ≡ c) → (c ≡ r → ⊥) → r ≡ classOf b → false ≡ eqb n x
+told-not c r b n x f k e = sym (eq-false n x (λ q. k (sym (e ∙ f q))))

@@ -1,7 +1,7 @@
 -- Objects that are one row and hold no contents: their rows, whatever stands around them. Assumes nothing.
 use Prim.Native.Nat.{ℕ, _+_, _-_, _/_, _%_, _≤_, _<_}
 use mathlib.Core.Path.{_≡_, refl, sym, ap, _∙_}
-use mathlib.Core.Bool.{true, false}
+use mathlib.Core.Bool.{Bool, true}
 use mathlib.Core.List.{List}
 use native.Mathlib.Omega.{arith}
 use lib.Dec.{eqb}
@@ -12,10 +12,9 @@ use Rattle.format.specs.Numbers.{twos}
 use Rattle.format.specs.Items.{Leaf, one}
 use Rattle.format.specs.Classes.{classOf}
 use Rattle.format.specs.Objects as O
-use Rattle.format.proofs.Choices.{each, eq-true, eq-false}
+use Rattle.format.proofs.Choices.{each, true-eq}
 use Rattle.format.proofs.TypeBytes.{char-class, small-class, xtra-class}
 use Rattle.wire.specs.Heads.{IsRow, RowAt}
-use Rattle.wire.proofs.ClassCases.{of-class}
 use Rattle.wire.proofs.HeadLaws.{char-row, sinteger-row, xtra-row, bool-row, empty-row, linteger-leaf, linteger-head, linteger-is}
 
 -- the item that an accepted class gives is the same at every depth
@@ -27,7 +26,7 @@ pub char-at : (b : ℕ) (s : List ℕ) → b < 0x80 → RowAt b s 3 b 0
 unfolding O.headBy
 char-at b s h = let r = char-row 0 b s in at-class C.Char7 b s 3 b 0 (char-class b h) (r .0) (λ d. r .1) (r .2)
 
-small-class-at : (b : ℕ) → 0x80 ≤ b → b < 0xc0 → classOf b ≡ C.Sinteger
+pub small-class-at : (b : ℕ) → 0x80 ≤ b → b < 0xc0 → classOf b ≡ C.Sinteger
 small-class-at b g h = let e : 0x80 + (b - 0x80) ≡ b = omega arith in rw e at (small-class (b - 0x80) (omega arith))
 
 pub small-at : (b : ℕ) (s : List ℕ) → 0x80 ≤ b → b < 0xc0 → RowAt b s 1 (b % 64) 0
@@ -40,15 +39,15 @@ long-class : (n : ℕ) → n < 8 → classOf (0xe0 + n) ≡ C.Linteger
 unfolding classOf
 long-class n h = each (λ k. classOf (0xe0 + k) ≡ C.Linteger) 8 (refl, (refl, (refl, (refl, (refl, (refl, (refl, (refl, tt)))))))) n h
 
-long-class-at : (b : ℕ) → 0xe0 ≤ b → b < 0xe8 → classOf b ≡ C.Linteger
+pub long-class-at : (b : ℕ) → 0xe0 ≤ b → b < 0xe8 → classOf b ≡ C.Linteger
 long-class-at b g h = let e : 0xe0 + (b - 0xe0) ≡ b = omega arith in rw e at (long-class (b - 0xe0) (omega arith))
 
--- told by its high five bits
-pub long-told : (b : ℕ) → C.Linteger ≡ classOf b → true ≡ eqb (b / 8) 0x1c
-long-told b e = let r = of-class b C.Linteger e in let q : b / 8 ≡ 0x1c = omega (arith, r .0, r .1) in sym (eq-true (b / 8) 0x1c q)
+-- what the tests for integers say of the byte
+pub small-byte : (b : ℕ) (t : Bool) → t ≡ eqb (b / 64) 2 → t ≡ true → (0x80 ≤ b) × (b ≤ 0xbf)
+small-byte b t e h = let q : b / 64 ≡ 2 = true-eq (b / 64) 2 (sym e ∙ h) in (omega arith, omega arith)
 
-pub long-not : (r : Class) (b : ℕ) → (C.Linteger ≡ r → ⊥) → r ≡ classOf b → false ≡ eqb (b / 8) 0x1c
-long-not r b n e = sym (eq-false (b / 8) 0x1c (λ q. n (sym (e ∙ long-class-at b (omega arith) (omega arith)))))
+pub long-byte : (b : ℕ) (t : Bool) → t ≡ eqb (b / 8) 0x1c → t ≡ true → (0xe0 ≤ b) × (b ≤ 0xe7)
+long-byte b t e h = let q : b / 8 ≡ 0x1c = true-eq (b / 8) 0x1c (sym e ∙ h) in (omega arith, omega arith)
 
 -- an LINTEGER whose bytes are there
 pub long-at : (b k v : ℕ) (s : List ℕ) → 0xe0 ≤ b → b ≤ 0xe7 → k ≡ O.following b → k ≤ length s → v ≡ twos 8 (O.integer (take k s)) → RowAt b s 1 v k

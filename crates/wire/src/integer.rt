@@ -24,6 +24,17 @@ fn wide(x: u8) -> u64
     x as u64
 }
 
+// Whether a type-byte is an SINTEGER's.
+pub fn is_sinteger(b: u8) -> bool
+    ensures { λ r. ⌜ r ≡ eqb (b / 64) 2 ⌝ }
+{
+    let class = class_of(b);
+    match class {
+        Class::Sinteger => true,
+        _ => false,
+    }
+}
+
 // Whether a type-byte is an LINTEGER's.
 pub fn is_linteger(b: u8) -> bool
     ensures { λ r. ⌜ r ≡ eqb (b / 8) 0x1c ⌝ }

@@ -2,6 +2,7 @@
 use Prim.Native.Nat.{_-_}
 use lib.ListN.{length}
 use Rattle.format.proofs.OnesLaws.{few-ones, many-ones}
+use Rattle.wire.proofs.ShortLaws.{held}
 use Rattle.fill.specs.Stretch.{Bare}
 use Rattle.fill.proofs.Stretches.{long-of, bare-none, bare-low, bare-high, bare-long}
 use borrow.Author.Needs.{needs}
@@ -71,7 +72,7 @@ loop-less-3 : tie.Need-loop-less-3 Inv-loop μ-loop
 loop-less-3 c = search needs
 
 loop-again-3 : tie.Need-loop-again-3 Inv-loop μ-loop
-loop-again-3 c = bare-long _ _ _ (c .before .before .before .before .before .before .before .before .before .loop .inv) (c .before .before .before .before .before .before .before .before .loop-test .taken) _ (long-of _ _ _ (c .before .before .before .is-linteger .ensures) (c .before .before .if3 .left) (c .before .following-of .ensures .0)) (omega arith)
+loop-again-3 c = bare-long _ _ _ (c .before .before .before .before .before .before .before .before .before .loop .inv) (c .before .before .before .before .before .before .before .before .loop-test .taken) _ (long-of _ _ _ (c .before .before .before .is-linteger .ensures) (held _ (c .before .before .if3 .left)) (c .before .following-of .ensures .0)) (omega arith)
 
 returns-3 : tie.Need-returns-3 Inv-loop μ-loop
 returns-3 c = c .before .loop .inv

@@ -1,5 +1,5 @@
 -- `short::is_string` tells the byte by its class. Assumes nothing.
-use mathlib.Core.Path.{refl, sym, _∙_}
+use mathlib.Core.Path.{sym, ap, _∙_}
 use mathlib.Core.List.{[], _∷_}
 use Rattle.format.specs.declared.Class.the-variants as C
 use Rattle.format.specs.Classes.{classOf}
@@ -15,11 +15,11 @@ enum-told : tie.Need-enum-told
 enum-told c = search needs
 
 returns : tie.Need-returns
-returns c = told C.String 0xc6 (c .before .before .before .args .b) (λ e. e) (sym (c .enum-told .given .1) ∙ c .before .before .class-of .ensures)
+returns c = told C.String (c .before .before .before .args .b) (c .before .before .before .args .b) 0xc6 (λ e. e) (sym (c .enum-told .given .1) ∙ c .before .before .class-of .ensures)
 
 returns-2 : tie.Need-returns-2
 unfolding classOf
-returns-2 c = told-not C.String (c .before .class-of .result) 0xc6 (c .before .before .args .b) refl (apart (C.String ∷ []) _ C.String tt (c .match .keys2)) (c .before .class-of .ensures)
+returns-2 c = told-not C.String (c .before .class-of .result) (c .before .before .args .b) (c .before .before .args .b) 0xc6 (ap classOf) (apart (C.String ∷ []) _ C.String tt (c .match .keys2)) (c .before .class-of .ensures)
 
 pub is-string-spec : {M : Type 1} → statement M
 is-string-spec = tie.close (tie.spec class-of-requires enum-told returns returns-2)

@@ -1,5 +1,5 @@
 -- `short::is_ustruc` tells the byte by its class. Assumes nothing.
-use mathlib.Core.Path.{refl, sym, _∙_}
+use mathlib.Core.Path.{sym, ap, _∙_}
 use mathlib.Core.List.{[], _∷_}
 use Rattle.format.specs.declared.Class.the-variants as C
 use Rattle.format.specs.Classes.{classOf}
@@ -15,11 +15,11 @@ enum-told : tie.Need-enum-told
 enum-told c = search needs
 
 returns : tie.Need-returns
-returns c = told C.Ustruc 0xc5 (c .before .before .before .args .b) (λ e. e) (sym (c .enum-told .given .1) ∙ c .before .before .class-of .ensures)
+returns c = told C.Ustruc (c .before .before .before .args .b) (c .before .before .before .args .b) 0xc5 (λ e. e) (sym (c .enum-told .given .1) ∙ c .before .before .class-of .ensures)
 
 returns-2 : tie.Need-returns-2
 unfolding classOf
-returns-2 c = told-not C.Ustruc (c .before .class-of .result) 0xc5 (c .before .before .args .b) refl (apart (C.Ustruc ∷ []) _ C.Ustruc tt (c .match .keys2)) (c .before .class-of .ensures)
+returns-2 c = told-not C.Ustruc (c .before .class-of .result) (c .before .before .args .b) (c .before .before .args .b) 0xc5 (ap classOf) (apart (C.Ustruc ∷ []) _ C.Ustruc tt (c .match .keys2)) (c .before .class-of .ensures)
 
 pub is-ustruc-spec : {M : Type 1} → statement M
 is-ustruc-spec = tie.close (tie.spec class-of-requires enum-told returns returns-2)

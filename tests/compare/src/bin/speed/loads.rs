@@ -28,6 +28,17 @@ fn long_integers(count: usize) -> Vec<u8> {
     (0..count).flat_map(object).collect()
 }
 
+/// Integers of one, two, three and nine bytes, so that no two neighbours are of one size.
+fn integers_of_four_sizes() -> Vec<u8> {
+    [
+        &[0x85][..],
+        &[0xE1, 0x50],
+        &[0xE2, 0x01, 0x40],
+        &[0xE0, 1, 2, 3, 4, 5, 6, 7, 8],
+    ]
+    .concat()
+}
+
 fn nest_of_sixteen() -> Vec<u8> {
     (0..16).fold(vec![0x80], |inner, _| sized(0xC2, &inner))
 }
@@ -103,6 +114,10 @@ pub fn loads() -> Vec<Load> {
             sized(0xC2, &bytes(16_383, 0x80, 0x3F)),
         ),
         load("64 KB of four-byte INTs", long_integers(13_107)),
+        load(
+            "INTs of 1, 2, 3 and 9 bytes",
+            integers_of_four_sizes().repeat(4_090),
+        ),
         load("a string of 16,380 as USTRUC", sized(0xC5, &string)),
         load("the same as STRING", sized(0xC6, &string)),
         load("strings of eight", sized(0xC5, b"MESSAGES").repeat(1_820)),
