@@ -3,7 +3,7 @@ use mathlib.Core.Path.{_≡_, refl, sym}
 use Prim.Native.Nat.{ℕ, zero, suc, _≤_, _<_}
 use native.Mathlib.Decide.{decLe}
 use native.Mathlib.Omega.{arith}
-use mathlib.Core.Bool.{Bool, true, false, not}
+use mathlib.Core.Bool.{Bool, true, false, not, false≢true}
 use mathlib.Core.Logic.{_≢_}
 use lib.Dec.{T, ltb, leb, eqb, ltb→lt, leb→le, le→leb, eqb→eq}
 use mir.Facts.{yes-ltb, no-ltb, yes-eqb, no-eqb}
@@ -21,6 +21,11 @@ pick-no b x y e = rw e refl
 pub is-true : (b : Bool) → T b → b ≡ true
 is-true true t = refl
 is-true false t = absurd t
+
+-- a test that did not fail
+pub held : (b : Bool) → not b ≡ false → b ≡ true
+held true e = refl
+held false e = absurd (false≢true (sym e))
 
 pub is-false : (b : Bool) → T (not b) → b ≡ false
 is-false true t = absurd t
@@ -112,3 +117,16 @@ Each P (suc n) = P n × Each P n
 pub each : (P : ℕ → Type 0) (n : ℕ) → Each P n → (k : ℕ) → k < n → P k
 each P zero a k h = absurd (omega arith)
 each P (suc n) a k h = split k n (λ l. each P n (a .1) k l) (λ g. let e : n ≡ k = omega arith in rw e at (a .0))
+
+-- a test passes at each number below n
+unfoldable pub below : (ℕ → Bool) → ℕ → Bool
+unfolding both
+below f zero = true
+below f (suc n) = both (f n) (below f n)
+
+pub passes : (f : ℕ → Bool) (n : ℕ) → below f n ≡ true → (k : ℕ) → k < n → f k ≡ true
+unfolding below
+passes f zero t k h = absurd (omega arith)
+passes f (suc n) t k h =
+    split k n (λ l. passes f n (both-right (f n) (below f n) t) k l)
+    (λ g. let e : n ≡ k = omega arith in rw e at (both-left (f n) (below f n) t))

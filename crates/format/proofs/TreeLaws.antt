@@ -13,8 +13,8 @@ use Rattle.format.specs.Bits.{bitsOf}
 use Rattle.format.specs.Classes.{classOf}
 use Rattle.format.specs.Codes.{codeOf}
 use Rattle.format.specs.Ones.{frontOnes, highOnes}
-use Rattle.format.proofs.Choices.{ifEq-no, both-left, both-right, true-eq}
-use Rattle.format.proofs.ClassCodes.{by-code, every, at-each}
+use Rattle.format.proofs.Choices.{ifEq-no, both-left, both-right, true-eq, below, passes}
+use Rattle.format.proofs.ClassCodes.{by-code}
 
 -- the list of the source
 unfoldable pub classes : List ℕ
@@ -45,20 +45,20 @@ treeAt n b =
     (ifEq n 6 C.Bool
     (ifEq n 7 C.Empty C.Padding)))))))
 
-right : ℕ → ℕ → Bool
-right b code = both (eqb code (codeOf (classOf b))) (eqb code (codeOf (treeAt (highOnes b) b)))
+right : ℕ → Bool
+right b = both (eqb (getD classes b 0) (codeOf (classOf b))) (eqb (getD classes b 0) (codeOf (treeAt (highOnes b) b)))
 
-all-right : every right 0 classes ≡ true
-unfolding every both right classes classOf codeOf treeAt highOnes frontOnes bitsOf
+all-right : below right 256 ≡ true
+unfolding below both right classes classOf codeOf treeAt highOnes frontOnes bitsOf
 all-right = refl
 
 pub listed-class : (b : ℕ) → b < 256 → getD classes b 0 ≡ codeOf (classOf b)
-unfolding classes right
-listed-class b h = true-eq (getD classes b 0) (codeOf (classOf b)) (both-left _ _ (at-each right classes all-right b h))
+unfolding right
+listed-class b h = true-eq (getD classes b 0) (codeOf (classOf b)) (both-left _ _ (passes right 256 all-right b h))
 
 pub listed-tree : (b : ℕ) → b < 256 → getD classes b 0 ≡ codeOf (treeAt (highOnes b) b)
-unfolding classes right
-listed-tree b h = true-eq (getD classes b 0) (codeOf (treeAt (highOnes b) b)) (both-right _ _ (at-each right classes all-right b h))
+unfolding right
+listed-tree b h = true-eq (getD classes b 0) (codeOf (treeAt (highOnes b) b)) (both-right _ _ (passes right 256 all-right b h))
 
 -- what the tree says is the class, since the list says both
 tree-class : (b : ℕ) → b < 256 → treeAt (highOnes b) b ≡ classOf b

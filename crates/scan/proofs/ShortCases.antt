@@ -11,7 +11,7 @@ use lib.Dec.{eqb}
 use lib.ListN.{length, take, drop, getD, length-drop, drop-of-length-le}
 use lib.Seq.{drop-drop}
 use Rattle.format.specs.Choice.{pick, ifEq}
-use Rattle.format.specs.Refusals.{at, further}
+use Rattle.format.specs.Refusals.{further}
 use Rattle.format.specs.Items.{Items, end, group, struc}
 use Rattle.format.specs.Objects as O
 use Rattle.format.specs.Messages.{Object, got, closing, around, object, onto, reads, says}

@@ -1,26 +1,29 @@
 -- The head of a container or a string whose size is one byte. Assumes nothing.
 use Prim.Native.Nat.{ℕ, _+_, _-_, _≤_, _<_}
-use mathlib.Core.Path.{_≡_, refl, sym, ap, _∙_}
+use mathlib.Core.Path.{_≡_, ap, _∙_}
 use mathlib.Core.Logic.{_≢_}
-use mathlib.Core.Bool.{Bool, true, false, not, false≢true}
+use mathlib.Core.Bool.{true, false≢true}
 use mathlib.Core.List.{List}
 use native.Mathlib.Omega.{arith}
-use lib.Dec.{eqb}
 use lib.ListN.{length, getD}
 use Rattle.format.specs.Classes.{classOf}
 use Rattle.format.specs.Objects as O
-use Rattle.format.proofs.Choices.{ifLt-yes, ifLt-no, split-eq, true-eq}
-use Rattle.wire.specs.Heads.{shortWrap, shortHead, ShortAt}
+use Rattle.format.proofs.Choices.{ifLt-yes, ifLt-no, eq-false, split-eq}
+use Rattle.wire.specs.Heads.{hasElements, shortWrap, shortHead, ShortAt}
 use Rattle.wire.proofs.Sizes.{size-short}
 
--- a test that did not fail
-pub held : (t : Bool) → not t ≡ false → t ≡ true
-held true e = refl
-held false e = absurd (false≢true (sym e))
-
 -- a byte that is one of the four
-pub one-of : (b x : ℕ) → eqb b x ≡ true → 0xc2 ≤ x → x ≤ 0xc6 → x ≢ 0xc4 → (0xc2 ≤ b) × (b ≤ 0xc6) × (b ≢ 0xc4)
-one-of b x t lo hi no4 = let e = true-eq b x t in (omega arith, omega arith, λ q. no4 (sym e ∙ q))
+pub one-of : (b : ℕ) → hasElements b ≡ true → (0xc2 ≤ b) × (b ≤ 0xc6) × (b ≢ 0xc4)
+unfolding hasElements
+one-of b h =
+    split-eq b 0xc2 (λ e. (omega arith, omega arith, λ q. absurd (omega arith)))
+    (λ n2.
+    split-eq b 0xc3 (λ e. (omega arith, omega arith, λ q. absurd (omega arith)))
+    (λ n3.
+    split-eq b 0xc5 (λ e. (omega arith, omega arith, λ q. absurd (omega arith)))
+    (λ n5.
+    split-eq b 0xc6 (λ e. (omega arith, omega arith, λ q. absurd (omega arith)))
+    (λ n6. absurd (false≢true (rw (eq-false b 0xc2 n2, eq-false b 0xc3 n3, eq-false b 0xc5 n5, eq-false b 0xc6 n6) at h))))))
 
 -- whatever the object makes of its contents
 contained : (d : ℕ) (s : List ℕ) (n : ℕ) (f : ℕ → ℕ → O.Head) → d < 16 → 0 < n → n < 128 → getD s 0 0 ≡ n → 1 + n ≤ length s

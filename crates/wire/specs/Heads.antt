@@ -4,8 +4,9 @@ use mathlib.Core.Path.{_≡_}
 use mathlib.Core.Logic.{_≢_}
 use mathlib.Core.Bool.{Bool}
 use mathlib.Core.List.{List, []}
+use lib.Dec.{eqb}
 use lib.ListN.{length, take, drop, getD}
-use Rattle.format.specs.Choice.{ifLt, ifEq}
+use Rattle.format.specs.Choice.{ifLt, ifEq, either}
 use Rattle.format.specs.Bits.{spread, adjusted, bytesFor}
 use Rattle.format.specs.Refusals.{at}
 use Rattle.format.specs.Items.{Leaf, bits, struc, end, group, one, leafKind}
@@ -97,6 +98,11 @@ HeadIs s (Short n w u) h = (bs : List Bool) × (h ≡ O.gives (one (bits bs)) u)
 HeadIs s (Long a n u) h = (h ≡ O.gives (one (bits (bitsFrom s a n))) u) × (a + bytesFor n ≡ u) × (u ≤ length s)
 HeadIs s (Text a n) h = (h ≡ O.gives (group struc (O.characters (O.contents s a n)) end) (a + n)) × (a + n ≤ length s)
 HeadIs s (Open w a n) h = (h ≡ O.opens (wrapOf w) a n) × (a + n ≤ length s)
+
+-- the type-byte of a STRUC, EDT, USTRUC or STRING
+unfoldable pub hasElements : ℕ → Bool
+unfolding either
+hasElements b = either (eqb b 0xc2) (either (eqb b 0xc3) (either (eqb b 0xc5) (eqb b 0xc6)))
 
 -- how a container closes by its type-byte C2, C5 or C3
 unfoldable pub shortWrap : ℕ → O.Wrap

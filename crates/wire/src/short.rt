@@ -1,10 +1,7 @@
 // Containers and strings whose size is one byte, as that of most is.
 ghost use mathlib.Core.Path.{_≡_};
-ghost use mathlib.Core.Logic.{_≢_};
-ghost use mathlib.Core.Bool.{true};
-ghost use Prim.Native.Nat.{_≤_};
 ghost use lib.Dec.{eqb};
-ghost use Rattle.wire.specs.Heads.{ShortIs};
+ghost use Rattle.wire.specs.Heads.{ShortIs, hasElements};
 use format::Class;
 use format::tree::class_of;
 
@@ -50,7 +47,7 @@ pub fn is_string(b: u8) -> bool
 
 // Whether a type-byte is one of these four: its contents are elements, with no length or count before them.
 fn has_elements(b: u8) -> bool
-    ensures { λ r. ⌜ (r ≡ true → (0xc2 ≤ b) × (b ≤ 0xc6) × (b ≢ 0xc4)) ⌝ }
+    ensures { λ r. ⌜ r ≡ hasElements b ⌝ }
 {
     if is_struc(b) {
         return true;

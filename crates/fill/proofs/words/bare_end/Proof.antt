@@ -1,8 +1,8 @@
 -- The loop's invariant: the bytes so far say items without data words. Assumes nothing.
 use Prim.Native.Nat.{_-_}
 use lib.ListN.{length}
+use Rattle.format.proofs.Choices.{held}
 use Rattle.format.proofs.OnesLaws.{few-ones, many-ones}
-use Rattle.wire.proofs.ShortLaws.{held}
 use Rattle.fill.specs.Stretch.{Bare}
 use Rattle.fill.proofs.Stretches.{long-of, bare-none, bare-low, bare-high, bare-long}
 use borrow.Author.Needs.{needs}

@@ -4,8 +4,8 @@ use native.Mathlib.Omega.{arith}
 use mathlib.Core.Path.{refl, ap}
 use Prim.Native.Nat.{_+_, _-_}
 use lib.ListN.{length}
+use Rattle.format.proofs.Choices.{held}
 use Rattle.wire.proofs.RowsAt.{small-byte, long-byte}
-use Rattle.wire.proofs.ShortLaws.{held}
 use Rattle.scan.specs.Stretch.{Counted}
 use Rattle.scan.proofs.Stretches.{counted-none, counted-join, counted-smalls, counted-long}
 use Rattle.scan.proofs.stretch.ints_from.Statement.{statement}

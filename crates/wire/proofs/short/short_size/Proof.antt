@@ -1,6 +1,8 @@
 -- `short::short_size` meets its contract. Assumes nothing.
 use native.Mathlib.Omega.{arith}
-use Rattle.wire.proofs.ShortLaws.{held, short-at}
+use mathlib.Core.Path.{sym, _∙_}
+use Rattle.format.proofs.Choices.{held}
+use Rattle.wire.proofs.ShortLaws.{one-of, short-at}
 use borrow.Author.Needs.{needs}
 use Rattle.wire.proofs.short.short_size.Statement.{statement}
 use Rattle.wire.proofs.short.short_size.Tie as tie
@@ -34,7 +36,7 @@ returns-5 c = λ z. absurd (omega arith)
 
 returns-6 : tie.Need-returns-6
 returns-6 c = λ z.
-    let w = c .before .before .before .before .before .before .has-elements .ensures (held _ (c .before .before .before .before .before .if1 .left)) in
+    let w = one-of _ (sym (c .before .before .before .before .before .before .has-elements .ensures) ∙ held _ (c .before .before .before .before .before .if1 .left)) in
     short-at (c .before .before .before .before .before .before .before .before .args .depth) (c .before .before .before .before .before .before .before .before .args .b) (c .before .before .before .before .before .before .before .before .args .s .now) _ (w .0) (w .1) (w .2) (omega arith) (omega arith) (omega arith) (omega arith) (omega arith)
 
 pub short-size-spec : {M : Type 1} → statement M
