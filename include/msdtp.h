@@ -22,9 +22,9 @@ extern "C" {
 #endif
 
 #define MSDTP_VERSION_MAJOR 0
-#define MSDTP_VERSION_MINOR 2
+#define MSDTP_VERSION_MINOR 3
 #define MSDTP_VERSION_PATCH 0
-#define MSDTP_VERSION "0.2.0"
+#define MSDTP_VERSION "0.3.0"
 
 /*
  * LENT BUFFERS
@@ -77,8 +77,9 @@ typedef char msdtp_size_t_has_64_bits[sizeof(size_t) == 8 ? 1 : -1];
                                   needs for so many bits */
 #define MSDTP_BAD_REPEAT 7     /* REPEAT outermost, without an INT first, or
                                   with a negative one */
-#define MSDTP_SEVERAL_KINDS 8  /* USTRUC whose elements are not of one kind; a
-                                  string and another STRUC are of two kinds */
+#define MSDTP_SEVERAL_KINDS 8  /* USTRUC whose elements are not of one kind. The
+                                  kinds are those of the table, so a string and
+                                  another STRUC are of one */
 #define MSDTP_BAD_EDT 9        /* EDT that breaks the EDT rule (see the table) */
 #define MSDTP_TOO_MANY 10      /* over MSDTP_ROW_LIMIT or MSDTP_WORD_LIMIT */
 #define MSDTP_TABLE_SHORT 11   /* the lent table is too short */

@@ -5,7 +5,7 @@ use crate::answers::{
     SEVERAL_KINDS, TOO_DEEP,
 };
 use crate::classes::{class_of, Class};
-use crate::kinds::sets;
+use crate::kinds::{elements, Element};
 use crate::summary::Summary;
 use crate::{bits, heads, integers, sizes, stretch};
 use std::ops::Range;
@@ -24,11 +24,11 @@ fn run(bytes: &[u8], mut at: usize, inside: usize) -> Result<Summary, Fault> {
         let class = class_of(rest[0]);
         at = match class {
             Class::Padding => at + stretch::of_padding(rest),
-            Class::Char7 => at + leaves(&mut sum, sets::CHAR, stretch::of_char7(rest)),
-            Class::Sinteger => at + leaves(&mut sum, sets::INT, stretch::of_sinteger(rest)),
-            Class::Bool => at + leaves(&mut sum, sets::BOOL, 1),
-            Class::Empty => at + leaves(&mut sum, sets::EMPTY, 1),
-            Class::Xtra => at + leaves(&mut sum, sets::XTRA, 1),
+            Class::Char7 => at + leaves(&mut sum, elements::CHAR, stretch::of_char7(rest)),
+            Class::Sinteger => at + leaves(&mut sum, elements::INT, stretch::of_sinteger(rest)),
+            Class::Bool => at + leaves(&mut sum, elements::BOOL, 1),
+            Class::Empty => at + leaves(&mut sum, elements::EMPTY, 1),
+            Class::Xtra => at + leaves(&mut sum, elements::XTRA, 1),
             Class::Linteger => long_integer(&mut sum, bytes, at, inside)?,
             Class::Sbitstr => short_bits(&mut sum, bytes, at, inside)?,
             Class::Lbitstr => long_bits(&mut sum, bytes, at, inside)?,
@@ -40,8 +40,8 @@ fn run(bytes: &[u8], mut at: usize, inside: usize) -> Result<Summary, Fault> {
 }
 
 #[inline(always)]
-fn leaves(sum: &mut Summary, kind: u64, count: usize) -> usize {
-    sum.add_leaves(kind, count);
+fn leaves(sum: &mut Summary, element: Element, count: usize) -> usize {
+    sum.add_leaves(element, count);
     count
 }
 
@@ -67,7 +67,7 @@ fn long_integer(sum: &mut Summary, bytes: &[u8], at: usize, inside: usize) -> Re
     if after > bytes.len() {
         return Err(cut(at, inside));
     }
-    sum.add_leaves(sets::INT, 1);
+    sum.add_leaves(elements::INT, 1);
     Ok(after)
 }
 
@@ -111,7 +111,7 @@ fn container(
     let contents = sizes::contents(bytes, at).ok_or_else(|| cut(at, inside))?;
     let end = contents.end;
     match class {
-        Class::String => sum.add_container(sets::STRING, contents.len() as u64, 0),
+        Class::String => sum.add_container(elements::STRING, contents.len() as u64, 0),
         Class::Repeat => repeat(sum, bytes, at, contents, inside)?,
         _ => structure(sum, class, bytes, at, contents, inside)?,
     }
@@ -142,13 +142,13 @@ fn structure(
     contents: Range<usize>,
     inside: usize,
 ) -> Result<(), Fault> {
-    let elements = run(&bytes[..contents.end], contents.start, inside + 1)?;
-    let kind = match class {
-        Class::Edt if !elements.begins_edt() => return Err(fault(BAD_EDT, at)),
-        Class::Ustruc if !elements.is_uniform() => return Err(fault(SEVERAL_KINDS, at)),
-        Class::Edt => sets::EDT,
-        _ => elements.kind_of_struc(),
+    let within = run(&bytes[..contents.end], contents.start, inside + 1)?;
+    let element = match class {
+        Class::Edt if !within.begins_edt() => return Err(fault(BAD_EDT, at)),
+        Class::Ustruc if !within.is_uniform() => return Err(fault(SEVERAL_KINDS, at)),
+        Class::Edt => elements::EDT,
+        _ => within.as_struc(),
     };
-    sum.add_container(kind, elements.rows(), elements.data_words);
+    sum.add_container(element, within.rows(), within.data_words);
     Ok(())
 }

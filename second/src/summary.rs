@@ -1,6 +1,6 @@
 //! What a run of objects adds up to, repeats laid out.
 
-use crate::kinds::sets;
+use crate::kinds::{elements, ranks, sets, Element};
 
 /// A count that a repeat makes goes no higher. It is past every limit, and low
 /// enough that as many of them as a message has bytes add up within a word.
@@ -13,14 +13,14 @@ pub struct Summary {
     /// The rows beneath the elements' own.
     beneath: u64,
     pub data_words: u64,
-    /// The set of the elements' kinds; above it, as sets of one or none, the
-    /// first element's kind and the second's.
-    kinds: u64,
+    /// For a USTRUC, and to know a string: the set of the elements' kinds.
+    kinds: u32,
+    /// For an EDT: the first element's rank, and the second's above it.
+    leading: u32,
 }
 
-const FIRST: u32 = 16;
-const SECOND: u32 = 32;
-const ONE_SET: u64 = (1 << FIRST) - 1;
+const SECOND: u32 = 2;
+const ONE_RANK: u32 = (1 << SECOND) - 1;
 
 impl Summary {
     pub const NOTHING: Summary = Summary {
@@ -28,6 +28,7 @@ impl Summary {
         beneath: 0,
         data_words: 0,
         kinds: sets::NONE,
+        leading: ranks::NEITHER,
     };
 
     #[inline(always)]
@@ -35,28 +36,30 @@ impl Summary {
         self.elements + self.beneath
     }
 
-    /// Adds some elements, at least one, of one kind and of one row each.
+    /// Adds some elements alike, at least one, of one row each.
     #[inline(always)]
-    pub fn add_leaves(&mut self, kind: u64, count: usize) {
-        if self.elements < 2 {
-            let next = if count > 1 { kind } else { sets::NONE };
-            self.kinds |= first_two(self.elements, kind, next);
-        }
-        self.kinds |= kind;
+    pub fn add_leaves(&mut self, element: Element, count: usize) {
+        let next = if count > 1 {
+            element.rank
+        } else {
+            ranks::NEITHER
+        };
+        self.lead(element.rank, next);
+        self.kinds |= element.kind;
         self.elements += count as u64;
     }
 
     /// Adds a BITS that fills so many data words.
     #[inline(always)]
     pub fn add_bits(&mut self, data_words: u64) {
-        self.add_leaves(sets::BITS, 1);
+        self.add_leaves(elements::BITS, 1);
         self.data_words += data_words;
     }
 
     /// Adds one element with rows beneath it.
     #[inline(always)]
-    pub fn add_container(&mut self, kind: u64, rows: u64, data_words: u64) {
-        self.add_leaves(kind, 1);
+    pub fn add_container(&mut self, element: Element, rows: u64, data_words: u64) {
+        self.add_leaves(element, 1);
         self.beneath += rows;
         self.data_words += data_words;
     }
@@ -67,59 +70,58 @@ impl Summary {
         if count == 0 || pattern.elements == 0 {
             return;
         }
-        if self.elements < 2 {
-            let alone = pattern.elements == 1 && count > 1;
-            let next = if alone {
-                pattern.first()
-            } else {
-                pattern.second()
-            };
-            self.kinds |= first_two(self.elements, pattern.first(), next);
-        }
-        self.kinds |= pattern.kinds & ONE_SET;
+        let alone = pattern.elements == 1 && count > 1;
+        let next = if alone {
+            pattern.first()
+        } else {
+            pattern.second()
+        };
+        self.lead(pattern.first(), next);
+        self.kinds |= pattern.kinds;
         self.elements += times(pattern.elements, count);
         self.beneath += times(pattern.beneath, count);
         self.data_words += times(pattern.data_words, count);
     }
 
-    fn first(&self) -> u64 {
-        self.kinds >> FIRST & ONE_SET
-    }
-
-    fn second(&self) -> u64 {
-        self.kinds >> SECOND & ONE_SET
-    }
-
-    /// The kind of a STRUC with these elements.
+    /// Notes the next elements' ranks as far as they are the first two. `next`
+    /// comes after `rank`, and is NEITHER if there is only one.
     #[inline(always)]
-    pub fn kind_of_struc(&self) -> u64 {
-        if self.kinds & ONE_SET & !sets::CHAR == 0 {
-            sets::STRING
+    fn lead(&mut self, rank: u32, next: u32) {
+        match self.elements {
+            0 => self.leading = rank | next << SECOND,
+            1 => self.leading |= rank << SECOND,
+            _ => {}
+        }
+    }
+
+    fn first(&self) -> u32 {
+        self.leading & ONE_RANK
+    }
+
+    fn second(&self) -> u32 {
+        self.leading >> SECOND
+    }
+
+    /// A STRUC with these elements, as an element itself.
+    #[inline(always)]
+    pub fn as_struc(&self) -> Element {
+        if self.kinds & !sets::CHAR == 0 {
+            elements::STRING
         } else {
-            sets::OTHER_STRUC
+            elements::OTHER_STRUC
         }
     }
 
     /// Whether these elements are all of one kind, or there are none.
     #[inline(always)]
     pub fn is_uniform(&self) -> bool {
-        (self.kinds & ONE_SET).count_ones() <= 1
+        self.kinds.count_ones() <= 1
     }
 
     /// Whether these elements begin as an EDT's must.
     #[inline(always)]
     pub fn begins_edt(&self) -> bool {
-        self.first() & (sets::INT | sets::STRING) != 0 && self.second() == sets::INT
-    }
-}
-
-/// The kinds of the first two elements as far as the next elements are they:
-/// `next` comes after `kind`, and is NONE if there is only one.
-#[inline(always)]
-fn first_two(elements_before: u64, kind: u64, next: u64) -> u64 {
-    match elements_before {
-        0 => kind << FIRST | next << SECOND,
-        _ => kind << SECOND,
+        self.first() != ranks::NEITHER && self.second() == ranks::INT
     }
 }
 
@@ -131,32 +133,106 @@ fn times(count: u64, repeats: u64) -> u64 {
 mod tests {
     use super::*;
 
+    /// A run of elements of one row each.
+    fn run(elements: &[Element]) -> Summary {
+        let mut run = Summary::NOTHING;
+        elements
+            .iter()
+            .for_each(|&element| run.add_leaves(element, 1));
+        run
+    }
+
+    const ALL: [Element; 9] = [
+        elements::INT,
+        elements::BITS,
+        elements::CHAR,
+        elements::BOOL,
+        elements::EMPTY,
+        elements::XTRA,
+        elements::STRING,
+        elements::OTHER_STRUC,
+        elements::EDT,
+    ];
+
+    /// Eight kinds: the nine elements are uniform each with itself, and the two
+    /// STRUCs with each other.
+    #[test]
+    fn the_kinds_of_two_elements() {
+        let pairs = ALL.map(|first| ALL.map(|second| run(&[first, second]).is_uniform()));
+        for (first, with) in pairs.iter().enumerate() {
+            for (second, &uniform) in with.iter().enumerate() {
+                let strucs = [first, second].iter().all(|at| [6, 7].contains(at));
+                assert_eq!(uniform, first == second || strucs, "{first} and {second}");
+            }
+        }
+        assert!(Summary::NOTHING.is_uniform());
+    }
+
+    /// Of the nine elements an INT and a string may be an EDT's first, and only
+    /// an INT its second.
+    #[test]
+    fn the_first_two_of_an_edt() {
+        for (first, &one) in ALL.iter().enumerate() {
+            for (second, &other) in ALL.iter().enumerate() {
+                let begins = [0, 6].contains(&first) && second == 0;
+                let run = run(&[one, other]);
+                assert_eq!(run.begins_edt(), begins, "{first} and {second}");
+            }
+            assert!(!run(&[one]).begins_edt(), "{first}");
+        }
+        assert!(!Summary::NOTHING.begins_edt());
+    }
+
+    #[test]
+    fn a_struc_of_characters_is_a_string() {
+        let string = |run: Summary| run.as_struc().rank == ranks::STRING;
+        assert!(string(Summary::NOTHING));
+        assert!(string(run(&[elements::CHAR; 3])));
+        assert!(!string(run(&[elements::CHAR, elements::INT])));
+        assert!(!string(run(&[elements::STRING])));
+        assert_eq!(run(&[elements::INT]).as_struc().kind, sets::STRUC);
+    }
+
+    /// Both the run before a pattern and the pattern say which come first.
     #[test]
     fn a_repeat_gives_the_first_two_elements() {
-        let mut pattern = Summary::NOTHING;
-        pattern.add_leaves(sets::INT, 1);
-        for (count, begins) in [(0, false), (1, false), (2, true), (u64::MAX, true)] {
-            let mut run = Summary::NOTHING;
-            run.add_repeated(&pattern, count);
-            assert_eq!(run.begins_edt(), begins, "{count} times");
+        let (int, string) = (elements::INT, elements::STRING);
+        let cases: [(&[Element], &[Element], u64, bool); 11] = [
+            (&[], &[int], 0, false),
+            (&[], &[int], 1, false),
+            (&[], &[int], 2, true),
+            (&[], &[int], u64::MAX, true),
+            (&[], &[string], 2, false),
+            (&[], &[string, int], 1, true),
+            (&[], &[int, string], 2, false),
+            (&[int], &[int], 0, false),
+            (&[string], &[int], 1, true),
+            (&[int], &[string], 2, false),
+            (&[elements::CHAR], &[int], 3, false),
+        ];
+        for (at, (before, pattern, count, begins)) in cases.into_iter().enumerate() {
+            let mut sum = run(before);
+            sum.add_repeated(&run(pattern), count);
+            assert_eq!(sum.begins_edt(), begins, "case {at}");
         }
     }
 
     #[test]
-    fn an_element_before_a_repeat_comes_first() {
-        let mut pattern = Summary::NOTHING;
-        pattern.add_leaves(sets::INT, 1);
-        let mut run = Summary::NOTHING;
-        run.add_leaves(sets::CHAR, 1);
-        run.add_repeated(&pattern, 3);
-        assert!(!run.begins_edt());
-        assert!(!run.is_uniform());
+    fn a_repeat_of_count_0_has_no_kinds() {
+        let string_and_int = run(&[elements::STRING, elements::INT]);
+        for (count, uniform) in [(0, true), (1, false), (2, false)] {
+            let mut sum = run(&[elements::OTHER_STRUC]);
+            sum.add_repeated(&string_and_int, count);
+            assert_eq!(sum.is_uniform(), uniform, "{count} times");
+        }
+        let mut sum = run(&[elements::OTHER_STRUC]);
+        sum.add_repeated(&run(&[elements::STRING]), 2);
+        assert!(sum.is_uniform());
     }
 
     #[test]
     fn counts_stay_at_the_ceiling() {
-        let mut pattern = Summary::NOTHING;
-        pattern.add_leaves(sets::INT, 1);
+        let mut pattern = run(&[elements::INT]);
         for _ in 0..16 {
             let mut outer = Summary::NOTHING;
             outer.add_repeated(&pattern, i64::MAX as u64);

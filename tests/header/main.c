@@ -52,7 +52,7 @@ static void check_reading(void)
         const char *name;
         uint64_t number, place;
         size_t length;
-        uint8_t bytes[8];
+        uint8_t bytes[9];
     } cases[] = {
         { "past the input", MSDTP_PAST_INPUT, 1, 2, { 0x80, 0xE1 } },
         { "past the enclosing", MSDTP_PAST_ENCLOSING, 2, 3, { 0xC2, 0x01, 0xE1 } },
@@ -60,7 +60,11 @@ static void check_reading(void)
         { "bad bits", MSDTP_BAD_BITS, 0, 2, { 0xF1, 0x00 } },
         { "bad repeat", MSDTP_BAD_REPEAT, 0, 1, { 0xC4 } },
         { "several kinds", MSDTP_SEVERAL_KINDS, 0, 4, { 0xC5, 0x02, 0x81, 0x41 } },
+        { "several kinds, an EDT and a STRUC", MSDTP_SEVERAL_KINDS, 0, 9,
+          { 0xC5, 0x07, 0xC3, 0x02, 0x81, 0x82, 0xC2, 0x01, 0x81 } },
         { "bad EDT", MSDTP_BAD_EDT, 0, 3, { 0xC3, 0x81, 0x00 } },
+        { "bad EDT, first a STRUC that is no string", MSDTP_BAD_EDT, 0, 7,
+          { 0xC3, 0x05, 0xC2, 0x01, 0x81, 0x81, 0x82 } },
         { "4 before 9, which comes after the contents", MSDTP_UNASSIGNED, 2, 3, { 0xC3, 0x01, 0xC0 } },
         { "2 before 6", MSDTP_PAST_INPUT, 0, 2, { 0xF2, 0x00 } },
     };
@@ -71,6 +75,16 @@ static void check_reading(void)
         check(cases[i].name, refused_read(cases[i].length, MSDTP_TABLE_WORDS,
                                           cases[i].number, cases[i].place, 0));
     }
+}
+
+/* A string and another STRUC are of one kind. */
+static void check_one_kind(void)
+{
+    static const uint8_t bytes[] = { 0xC5, 0x06, 0xC5, 0x01, 0x41, 0xC2, 0x01, 0x81 };
+
+    memcpy(message, bytes, sizeof bytes);
+    check("one kind, a string and another STRUC",
+          accepted_read(sizeof bytes, MSDTP_TABLE_WORDS, 19));
 }
 
 /* An empty buffer may be null: each one, wherever it is lent. */
@@ -105,6 +119,7 @@ int main(int count, char **arguments)
     check_meanings();
     check_tables();
     check_reading();
+    check_one_kind();
     check_null();
     check_limits();
     check_numbers();

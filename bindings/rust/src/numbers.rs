@@ -40,8 +40,8 @@ pub const TOO_DEEP: u64 = 5;
 pub const BAD_BITS: u64 = 6;
 /// REPEAT outermost, without an INT first, or with a negative one.
 pub const BAD_REPEAT: u64 = 7;
-/// USTRUC whose elements are not of one kind; a string and another STRUC are of
-/// two kinds.
+/// USTRUC whose elements are not of one kind. The kinds are those of the table
+/// ([`kinds`](crate::kinds)), so a string and another STRUC are of one.
 pub const SEVERAL_KINDS: u64 = 8;
 /// EDT whose first element is neither an INT nor a string, or whose second is
 /// no INT.

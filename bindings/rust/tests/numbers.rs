@@ -45,6 +45,21 @@ fn refused_writing(table: &[u64], bytes: usize) -> Refused {
     refused
 }
 
+/// In a USTRUC strings and other STRUCs are of one kind, and an EDT of another;
+/// an EDT begins with no STRUC but a string.
+#[test]
+fn kinds_of_a_ustruc() {
+    let mixed = [0xC5, 0x06, 0xC5, 0x01, 0x41, 0xC2, 0x01, 0x81];
+    let (mut table, mut output) = (vec![0; TABLE_WORDS], vec![0; OUTPUT_BYTES]);
+    let normalised = normalise(&mixed, &mut table, &mut output).expect("one kind");
+    let length = normalised.length;
+    assert_eq!(output[..length], [&[0xC2], &mixed[1..]].concat());
+    let with_edt = [0xC5, 0x07, 0xC3, 0x02, 0x81, 0x82, 0xC2, 0x01, 0x81];
+    assert_eq!(refused_reading(&with_edt, 40).number, 8);
+    let no_string_first = [0xC3, 0x05, 0xC2, 0x01, 0x81, 0x81, 0x82];
+    assert_eq!(refused_reading(&no_string_first, 40).number, 9);
+}
+
 #[test]
 fn reading_gives_1_to_11() {
     let cases: [(Vec<u8>, u64, usize); 10] = [

@@ -56,7 +56,7 @@ pub kinds-join : (xs ys : Items) → kinds (join xs ys) ≡ kinds xs ++ kinds ys
 unfolding kinds join
 kinds-join end ys = refl
 kinds-join (leaf l xs) ys = ap (λ ks. leafKind l ∷ ks) (kinds-join xs ys)
-kinds-join (group g c xs) ys = ap (λ ks. groupKind g (kinds c) ∷ ks) (kinds-join xs ys)
+kinds-join (group g c xs) ys = ap (λ ks. groupKind g ∷ ks) (kinds-join xs ys)
 
 -- how many data words: what the numbers below count
 abbrev pub words : Items → ℕ

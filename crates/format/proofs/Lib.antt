@@ -15,10 +15,12 @@ pub mod Counts
 pub mod TableLaws
 pub mod Shortest
 pub mod HeadCases
+pub mod OneKind
 pub mod ReadProper
 pub mod NormalHeads
 pub mod NormalBytes
 pub mod RoundTrip
 pub mod Minimal
+pub mod Fewer
 pub mod Faults
 pub mod Examples

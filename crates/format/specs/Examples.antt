@@ -1,4 +1,5 @@
--- The lines marked P under "Sheets to try", each once and in the paper's order, and what it is for one to hold.
+-- The lines marked P under "Sheets to try", each once and in the paper's order, then the messages that the asks name; and what
+-- it is for one to hold.
 use Prim.Native.Nat.{ℕ, zero, suc, _+_}
 use mathlib.Core.Path.{_≡_}
 use mathlib.Core.Bool.{Bool, true, false}
@@ -127,16 +128,29 @@ unfoldable pub line14 : Example
 unfolding ints text zeroRows
 line14 = rejected (0xc4 ∷ 0x02 ∷ 0x82 ∷ 0x80 ∷ []) 7 0
 
+-- Ask 5. C5 06 C5 01 41 C2 01 81: ("A" (1)), a string and another STRUC in a USTRUC
+unfoldable pub ask5 : Example
+unfolding ints text
+ask5 = accepted (0xc5 ∷ 0x06 ∷ 0xc5 ∷ 0x01 ∷ 0x41 ∷ 0xc2 ∷ 0x01 ∷ 0x81 ∷ [])
+    (group struc (group struc (text (0x41 ∷ [])) (group struc (ints (1 ∷ [])) end)) end)
+    (5 ∷ 1 ∷ 19 ∷ 0 ∷ 7 ∷ 2 ∷ 4 ∷ 7 ∷ 1 ∷ 1 ∷ 3 ∷ 0 ∷ 0x41 ∷ 7 ∷ 1 ∷ 1 ∷ 1 ∷ 0 ∷ 1 ∷ [])
+    (0xc2 ∷ 0x06 ∷ 0xc5 ∷ 0x01 ∷ 0x41 ∷ 0xc2 ∷ 0x01 ∷ 0x81 ∷ [])
+
 unfoldable pub examples : List Example
-unfolding line1 line2 line3 line4 line5 line6 line7 line8 line9 line10 line11 line12 line13 line14
+unfolding line1 line2 line3 line4 line5 line6 line7 line8 line9 line10 line11 line12 line13 line14 ask5
 examples =
-    line1 ∷ line2 ∷ line3 ∷ line4 ∷ line5 ∷ line6 ∷ line7 ∷ line8 ∷ line9 ∷ line10 ∷ line11 ∷ line12 ∷ line13 ∷ line14 ∷ []
+    line1 ∷ line2 ∷ line3 ∷ line4 ∷ line5 ∷ line6 ∷ line7 ∷ line8 ∷ line9 ∷ line10 ∷ line11 ∷ line12 ∷ line13 ∷ line14 ∷ ask5 ∷ []
 
 -- Not marked P, but a listed mistake: a repeat of 2^63 - 1 empty patterns has a meaning like any other, and is not walked
 -- round by round.
 unfoldable pub hugeRepeat : Example
 hugeRepeat =
     accepted (0xc2 ∷ 0x0b ∷ 0xc4 ∷ 0x09 ∷ 0xe0 ∷ 0x7f ∷ replicate 7 0xff) (group struc end end) (1 ∷ 1 ∷ 7 ∷ 0 ∷ 7 ∷ 0 ∷ 0 ∷ []) (0xc5 ∷ 0x81 ∷ 0x00 ∷ [])
+
+-- Not named by an ask, but what a reader of Ask 5 could take for its other half: a STRUC that is no string begins no EDT.
+-- C3 05 C2 01 81 81 82: 9 at 0
+unfoldable pub strucFirst : Example
+strucFirst = rejected (0xc3 ∷ 0x05 ∷ 0xc2 ∷ 0x01 ∷ 0x81 ∷ 0x81 ∷ 0x82 ∷ []) 9 0
 
 -- what is lent holds sevens, and two words or bytes more than are needed
 abbrev pub lent : ℕ → List ℕ

@@ -5,7 +5,7 @@ use mathlib.Core.List.{List, [], _∷_}
 use lib.Dec.{ltb, eqb}
 use lib.IntN.{ℤ}
 use lib.Signed.{mag}
-use Rattle.format.specs.Choice.{pick, both, either}
+use Rattle.format.specs.Choice.{both, either}
 
 -- an item with no elements
 pub data Leaf : Type 0 where
@@ -44,7 +44,7 @@ times (suc n) (leaf l xs) = join (leaf l xs) (times n (leaf l xs))
 times zero (group g c xs) = end
 times (suc n) (group g c xs) = join (group g c xs) (times n (group g c xs))
 
--- "The kinds are INT, BITS, CHAR, BOOL, EMPTY, XTRA, string, other STRUC, EDT." Their codes are the table's, 9 for a string.
+-- "The kinds are INT, BITS, CHAR, BOOL, EMPTY, XTRA, string, other STRUC, EDT." Their codes are the table's.
 abbrev pub INT : ℕ
 INT = 1
 
@@ -69,9 +69,6 @@ STRUC = 7
 abbrev pub EDT : ℕ
 EDT = 8
 
-abbrev pub STRING : ℕ
-STRING = 9
-
 unfoldable pub leafKind : Leaf → ℕ
 leafKind (int z) = INT
 leafKind (bits bs) = BITS
@@ -80,6 +77,18 @@ leafKind (bool b) = BOOL
 leafKind empty = EMPTY
 leafKind (xtra n) = XTRA
 
+-- Ask 5: "For a USTRUC, strings and other STRUCs are one kind; an EDT stays its own."
+unfoldable pub groupKind : Group → ℕ
+groupKind struc = STRUC
+groupKind edt = EDT
+
+-- the kinds of the items of a list, elements left out
+unfoldable pub kinds : Items → List ℕ
+unfolding leafKind groupKind
+kinds end = []
+kinds (leaf l xs) = leafKind l ∷ kinds xs
+kinds (group g c xs) = groupKind g ∷ kinds xs
+
 -- every kind of a list is k
 unfoldable pub allOf : ℕ → List ℕ → Bool
 unfolding both
@@ -87,18 +96,6 @@ allOf k [] = true
 allOf k (l ∷ ks) = both (eqb l k) (allOf k ks)
 
 -- "A STRUC whose elements are all CHAR, the empty one included, is a string."
-unfoldable pub groupKind : Group → List ℕ → ℕ
-unfolding allOf pick
-groupKind struc ks = pick (allOf CHAR ks) STRING STRUC
-groupKind edt ks = EDT
-
--- the kinds of the items of a list, elements left out
-unfoldable pub kinds : Items → List ℕ
-unfolding leafKind groupKind
-kinds end = []
-kinds (leaf l xs) = leafKind l ∷ kinds xs
-kinds (group g c xs) = groupKind g (kinds c) ∷ kinds xs
-
 unfoldable pub isString : Items → Bool
 unfolding allOf kinds
 isString xs = allOf CHAR (kinds xs)
@@ -113,16 +110,31 @@ unfoldable pub uniform : Items → Bool
 unfolding alike kinds
 uniform xs = alike (kinds xs)
 
--- "an EDT's first element is an INT or a string and its second an INT"
-unfoldable pub edtKinds : List ℕ → Bool
-unfolding both either
-edtKinds [] = false
-edtKinds (k ∷ []) = false
-edtKinds (k ∷ l ∷ ks) = both (either (eqb k INT) (eqb k STRING)) (eqb l INT)
+-- the first item of a list is an INT
+unfoldable pub startsInt : Items → Bool
+unfolding leafKind
+startsInt end = false
+startsInt (leaf l xs) = eqb (leafKind l) INT
+startsInt (group g c xs) = false
 
+-- the first item of a list is a string
+unfoldable pub startsString : Items → Bool
+unfolding isString
+startsString end = false
+startsString (leaf l xs) = false
+startsString (group struc c xs) = isString c
+startsString (group edt c xs) = false
+
+-- the items behind the first
+unfoldable pub behind : Items → Items
+behind end = end
+behind (leaf l xs) = xs
+behind (group g c xs) = xs
+
+-- "an EDT's first element is an INT or a string and its second an INT"
 unfoldable pub edtRule : Items → Bool
-unfolding edtKinds kinds
-edtRule xs = edtKinds (kinds xs)
+unfolding both either startsInt startsString behind
+edtRule xs = both (either (startsInt xs) (startsString xs)) (startsInt (behind xs))
 
 -- What can be an item at all. INT: "from -2^63 to 2^63 - 1" (`mag` of n is n, and of -(n + 1) is n); "CHAR 0-127"; "XTRA 0-3".
 unfoldable pub properLeaf : Leaf → Bool

@@ -1,4 +1,4 @@
--- The kinds met, and the first two, of lists of kinds joined and repeated; and the rules about kinds told from them. Assumes nothing.
+-- The kinds met and the leads, joined and repeated; and the rules about elements told from them. Assumes nothing.
 use Prim.Native.Nat.{ℕ, _<_}
 use native.Mathlib.Omega.{arith}
 use mathlib.Core.Path.{_≡_, refl, sym, ap, _∙_}
@@ -7,12 +7,12 @@ use mathlib.Core.Bool.{Bool, true, false}
 use mathlib.Core.List.{List, [], _∷_, _++_}
 use lib.Dec.{eqb}
 use Rattle.format.specs.Choice.{pick, ifEq, both, either}
-use Rattle.format.specs.Items.{Leaf, int, bits, char, bool, empty, xtra, Group, struc, edt, Items, end, leaf, group, leafKind, groupKind, kinds, allOf, alike, edtKinds}
+use Rattle.format.specs.Items.{Leaf, int, bits, char, bool, empty, xtra, Group, struc, edt, Items, end, leaf, group, leafKind, groupKind, kinds, allOf, alike, isString, startsInt, startsString, behind, edtRule}
 use Rattle.format.proofs.Choices.{ifEq-yes, ifEq-no, eq-true, eq-false, split-eq, byEq, byPick}
 use Rattle.format.proofs.TableLaws.{leaf-kind}
-use Rattle.scan.specs.Sums.{mixed, mixOf, firstOf, secondOf, orElse, strucKind}
+use Rattle.scan.specs.Sums.{mixed, mixOf, groupLead, leads, firstOf, secondOf, orElse, strucLead}
 
--- ---- codes of kinds: neither that of none nor that of several
+-- ---- codes of kinds and leads: neither that of none nor that of several
 abbrev pub Codes : List ℕ → Type 0
 Codes [] = Unit {0}
 Codes (k ∷ ks) = (0 < k) × (k < 255) × Codes ks
@@ -21,16 +21,27 @@ leaf-code : (l : Leaf) → 0 < leafKind l
 unfolding leafKind
 leaf-code l = elim l [ int z ↦ omega arith | bits bs ↦ omega arith | char c ↦ omega arith | bool b ↦ omega arith | empty ↦ omega arith | xtra n ↦ omega arith ]
 
-group-code : (g : Group) (ks : List ℕ) → (0 < groupKind g ks) × (groupKind g ks < 255)
+group-code : (g : Group) → (0 < groupKind g) × (groupKind g < 255)
 unfolding groupKind
-group-code struc ks = byPick (λ k. (0 < k) × (k < 255)) (allOf 3 ks) (λ e. (omega arith, omega arith)) (λ e. (omega arith, omega arith))
-group-code edt ks = (omega arith, omega arith)
+group-code struc = (omega arith, omega arith)
+group-code edt = (omega arith, omega arith)
 
 pub kinds-codes : (xs : Items) → Codes (kinds xs)
 unfolding kinds
 kinds-codes end = tt
 kinds-codes (leaf l xs) = (leaf-code l, omega (arith, leaf-kind l), kinds-codes xs)
-kinds-codes (group g c xs) = (group-code g (kinds c) .0, group-code g (kinds c) .1, kinds-codes xs)
+kinds-codes (group g c xs) = (group-code g .0, group-code g .1, kinds-codes xs)
+
+lead-code : (g : Group) (c : Items) → (0 < groupLead g c) × (groupLead g c < 255)
+unfolding groupLead
+lead-code struc c = byPick (λ k. (0 < k) × (k < 255)) (isString c) (λ e. (omega arith, omega arith)) (λ e. (omega arith, omega arith))
+lead-code edt c = (omega arith, omega arith)
+
+pub leads-codes : (xs : Items) → Codes (leads xs)
+unfolding leads
+leads-codes end = tt
+leads-codes (leaf l xs) = (leaf-code l, omega (arith, leaf-kind l), leads-codes xs)
+leads-codes (group g c xs) = (lead-code g c .0, lead-code g c .1, leads-codes xs)
 
 -- ---- the kinds met
 mixed-first : (b : ℕ) → mixed 0 b ≡ b
@@ -83,7 +94,7 @@ mix-append (k ∷ a) b = ap (mixed k) (mix-append a b) ∙ sym (mixed-assoc k (m
 pub mix-again : (a b : List ℕ) → mixOf b ≡ mixOf a → mixOf (a ++ b) ≡ mixOf a
 mix-again a b e = mix-append a b ∙ ap (mixed (mixOf a)) e ∙ mixed-same (mixOf a)
 
--- ---- the first two kinds
+-- ---- the leads
 pub first-append : (a b : List ℕ) → Codes a → firstOf (a ++ b) ≡ orElse (firstOf a) (firstOf b)
 unfolding firstOf orElse
 first-append [] b c = refl
@@ -134,29 +145,56 @@ several (k ∷ ks) x y c = rw (mix-cons k ks c) (go (allOf k ks))
     go true = ifEq-no k 255 _ _ (λ (z : k ≡ 255). omega (arith, c .1))
     go false = refl
 
--- a STRUC's kind
-pub struc-kind : (ks : List ℕ) → Codes ks → strucKind (mixOf ks) ≡ groupKind struc ks
-unfolding strucKind groupKind mixOf
-struc-kind [] c = refl
-struc-kind (k ∷ ks) c =
+-- what a STRUC is to an EDT
+struc-by : (ks : List ℕ) → Codes ks → strucLead (mixOf ks) ≡ pick (allOf 3 ks) 9 7
+unfolding strucLead mixOf allOf
+struc-by [] c = refl
+struc-by (k ∷ ks) c =
     rw (mix-cons k ks c)
     (split-eq k 3 (λ e. rw e (three (allOf 3 ks))) (λ n. rw (eq-false k 3 n) (other n (allOf k ks))))
   where
-    three : (t : Bool) → strucKind (pick t 3 255) ≡ pick t 9 7
+    three : (t : Bool) → strucLead (pick t 3 255) ≡ pick t 9 7
     three true = refl
     three false = refl
 
-    other : k ≢ 3 → (t : Bool) → strucKind (pick t k 255) ≡ 7
+    other : k ≢ 3 → (t : Bool) → strucLead (pick t k 255) ≡ 7
     other n true = ifEq-no k 0 _ _ (λ (z : k ≡ 0). omega (arith, c .0)) ∙ ifEq-no k 3 _ _ n
     other n false = refl
 
+pub struc-lead : (c : Items) → strucLead (mixOf (kinds c)) ≡ groupLead struc c
+unfolding groupLead isString
+struc-lead c = struc-by (kinds c) (kinds-codes c)
+
 -- an EDT's first two elements
-pub edt-leads : {X : Type 0} (ks : List ℕ) (x y : X)
-    → ifEq (secondOf ks) 1 (ifEq (firstOf ks) 1 x (ifEq (firstOf ks) 9 x y)) y ≡ pick (edtKinds ks) x y
-unfolding firstOf secondOf edtKinds ifEq
-edt-leads [] x y = refl
-edt-leads (k ∷ []) x y = refl
-edt-leads (k ∷ l ∷ ks) x y = go (eqb k 1) (eqb k 9) (eqb l 1)
+leads-int : (xs : Items) → eqb (firstOf (leads xs)) 1 ≡ startsInt xs
+unfolding leads firstOf startsInt groupLead
+leads-int end = refl
+leads-int (leaf l xs) = refl
+leads-int (group struc c xs) = byPick (λ k. eqb k 1 ≡ false) (isString c) (λ e. refl) (λ e. refl)
+leads-int (group edt c xs) = refl
+
+leads-string : (xs : Items) → eqb (firstOf (leads xs)) 9 ≡ startsString xs
+unfolding leads firstOf startsString groupLead
+leads-string end = refl
+leads-string (leaf l xs) = eq-false (leafKind l) 9 (λ (z : leafKind l ≡ 9). omega (arith, leaf-kind l))
+leads-string (group struc c xs) = go (isString c)
+  where
+    go : (t : Bool) → eqb (pick t 9 7) 9 ≡ t
+    go true = unfold pick in refl
+    go false = unfold pick in refl
+leads-string (group edt c xs) = refl
+
+leads-behind : (xs : Items) → secondOf (leads xs) ≡ firstOf (leads (behind xs))
+unfolding leads firstOf secondOf behind
+leads-behind end = refl
+leads-behind (leaf l xs) = refl
+leads-behind (group g c xs) = refl
+
+pub edt-leads : {X : Type 0} (xs : Items) (x y : X)
+    → ifEq (secondOf (leads xs)) 1 (ifEq (firstOf (leads xs)) 1 x (ifEq (firstOf (leads xs)) 9 x y)) y ≡ pick (edtRule xs) x y
+unfolding edtRule ifEq
+edt-leads xs x y =
+    rw (leads-behind xs, leads-int (behind xs), leads-int xs, leads-string xs) (go (startsInt xs) (startsString xs) (startsInt (behind xs)))
   where
     go : (p q r : Bool) → pick r (pick p x (pick q x y)) y ≡ pick (both (either p q) r) x y
     go true q true = refl

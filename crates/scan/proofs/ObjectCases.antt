@@ -11,7 +11,7 @@ use lib.Seq.{length-take-le}
 use Rattle.format.specs.Choice.{pick, ifEq}
 use Rattle.format.specs.Bits.{spread, bytesFor, wordsFor}
 use Rattle.format.specs.Refusals.{at, further}
-use Rattle.format.specs.Items.{Items, end, group, struc, edt, one, bits, kinds, uniform, edtRule}
+use Rattle.format.specs.Items.{Items, end, group, struc, edt, one, bits, groupKind, kinds, uniform, edtRule}
 use Rattle.format.specs.Objects as O
 use Rattle.format.specs.Messages.{Outcome, Object, closing, around, object, reads}
 use Rattle.format.proofs.BitLaws.{spread-length, bytes-enough}
@@ -27,18 +27,14 @@ use Rattle.scan.specs.declared.summary.Summary.{Summary}
 use Rattle.scan.specs.declared.Scanned.the-variants.{Refused, Accepted}
 use Rattle.scan.specs.declared.closing.Object as D
 use Rattle.scan.specs.declared.closing.Object.the-variants.{Bad, Got}
-use Rattle.scan.specs.Sums.{cap, sumOf, nothingOf, oneOf, strucKind, groupOf}
+use Rattle.scan.specs.Sums.{cap, groupLead, sumOf, nothingOf, oneOf, textOf}
 use Rattle.scan.specs.Answer.{answer, answerObject, ustrucFault, edtFault, closedBy, closedOf}
-use Rattle.scan.proofs.KindsMet.{kinds-codes, several, struc-kind, edt-leads}
-use Rattle.scan.proofs.SumLaws.{sum-none, sum-row, sum-bits, sum-text, sum-group, sum-times}
+use Rattle.scan.proofs.KindsMet.{kinds-codes, several, edt-leads}
+use Rattle.scan.proofs.SumLaws.{sum-none, sum-row, sum-bits, sum-text, sum-group, sum-struc, sum-times}
 use Rattle.scan.proofs.Told.{refused-run, accepted-run}
 use Rattle.scan.proofs.Bounds.{HeadWithin, head-within, RunWithin, reads-within}
 
 -- ---- closing
-struc-sum : (xs : Items) → sumOf (group struc xs end) ≡ groupOf (strucKind (sumOf xs .mix)) (sumOf xs)
-unfolding sumOf
-struc-sum xs = sum-group struc xs ∙ ap (λ k. groupOf k (sumOf xs)) (sym (struc-kind (kinds xs) (kinds-codes xs)))
-
 picked : (b : Bool) (x y : Object) → answerObject (pick b x y) ≡ pick b (answerObject x) (answerObject y)
 unfolding pick
 picked true x y = refl
@@ -63,12 +59,12 @@ edt-by a x u = go (eqb (a .second) 1) (eqb (a .first) 1) (eqb (a .first) 9)
     go true false false = refl
 
 pub closed-answer : (w : Wrap) (u : ℕ) (xs : Items) → answerObject (closing (wrapOf w) u xs) ≡ closedOf w (sumOf xs) u
-unfolding closing wrapOf closedOf answerObject sumOf uniform edtRule
-closed-answer Struc u xs = ap (λ a. Got a u) (struc-sum xs)
+unfolding closing wrapOf closedOf answerObject sumOf uniform groupKind groupLead
+closed-answer Struc u xs = ap (λ a. Got a u) (sum-struc xs)
 closed-answer Ustruc u xs =
-    picked (uniform xs) _ _ ∙ ap (λ a. pick (uniform xs) (Got a u) (Bad 8 0)) (struc-sum xs) ∙ sym (several (kinds xs) _ _ (kinds-codes xs)) ∙ sym (ustruc-by (sumOf xs) _ u)
+    picked (uniform xs) _ _ ∙ ap (λ a. pick (uniform xs) (Got a u) (Bad 8 0)) (sum-struc xs) ∙ sym (several (kinds xs) _ _ (kinds-codes xs)) ∙ sym (ustruc-by (sumOf xs) _ u)
 closed-answer Edt u xs =
-    picked (edtRule xs) _ _ ∙ ap (λ a. pick (edtRule xs) (Got a u) (Bad 9 0)) (sum-group edt xs) ∙ sym (edt-leads (kinds xs) _ _) ∙ sym (edt-by (sumOf xs) _ u)
+    picked (edtRule xs) _ _ ∙ ap (λ a. pick (edtRule xs) (Got a u) (Bad 9 0)) (sum-group edt xs) ∙ sym (edt-leads xs _ _) ∙ sym (edt-by (sumOf xs) _ u)
 closed-answer (Repeat k) u xs = ap (λ a. Got a u) (sum-times k xs)
 
 -- ---- the cases of a head, as the code has them
@@ -125,7 +121,7 @@ module _ (d b : ℕ) (s : List ℕ) (r : Head) (t : HeadIs s r (O.headOf d b s))
   pub text-fits : (a n : ℕ) → r ≡ Text a n → a + n ≤ length s
   text-fits a n e = is (Text a n) e .1
 
-  pub text-is : (a n : ℕ) (z : Summary) → r ≡ Text a n → z ≡ oneOf 9 (cap (n + 1)) 0 → Got z (a + n) ≡ answerObject (objectAt d b s)
+  pub text-is : (a n : ℕ) (z : Summary) → r ≡ Text a n → z ≡ textOf (cap (n + 1)) → Got z (a + n) ≡ answerObject (objectAt d b s)
   text-is a n z e f =
       let x = is (Text a n) e in
       given (group struc (O.characters (O.contents s a n)) end) (a + n) z (x .0)

@@ -14,7 +14,7 @@ use Rattle.format.specs.Choice.{pick, ifEq}
 use Rattle.format.specs.Refusals.{further}
 use Rattle.format.specs.Items.{Items, end, group, struc}
 use Rattle.format.specs.Objects as O
-use Rattle.format.specs.Messages.{Object, got, closing, around, object, onto, reads, says}
+use Rattle.format.specs.Messages.{got, closing, around, object, onto, reads, says}
 use Rattle.format.proofs.Choices.{split-eq, eq-true, eq-false, ifEq-yes, ifEq-no}
 use Rattle.format.proofs.Counts.{join-end}
 use Rattle.format.proofs.Parts.{rest-part}
@@ -27,9 +27,9 @@ use Rattle.scan.specs.declared.summary.Summary.{Summary}
 use Rattle.scan.specs.declared.Scanned.{Scanned}
 use Rattle.scan.specs.declared.Scanned.the-variants.{Refused, Accepted}
 use Rattle.scan.specs.declared.closing.Object.the-variants.{Bad, Got}
-use Rattle.scan.specs.Sums.{cap, sumOf, oneOf, plusOf, powerOf, secondPower, strucKind, groupOf}
+use Rattle.scan.specs.Sums.{cap, sumOf, oneOf, textOf, plusOf, powerOf, secondPower, strucLead, strucOf, edtOf}
 use Rattle.scan.specs.Answer.{answer, answerObject, ustrucFault, edtFault, closedBy, closedOf}
-use Rattle.scan.specs.Shorts.{shortObject, asObject, faultOf, shortKind, textFault}
+use Rattle.scan.specs.Shorts.{shortObject, asObject, faultOf, shortGroup, textFault}
 use Rattle.scan.proofs.SumLaws.{sum-text}
 use Rattle.scan.proofs.Told.{refused-run, accepted-run}
 use Rattle.scan.proofs.Bounds.{RunWithin, reads-within}
@@ -40,8 +40,8 @@ use Rattle.scan.proofs.ObjectCases.{closed-answer}
 -- ---- closing
 -- a container, from what its contents come to
 unfoldable shortClosed : ℕ → Summary → Scanned
-unfolding ifEq faultOf shortKind
-shortClosed b a = ifEq (faultOf b a) 0 (Accepted (groupOf (shortKind b (a .mix)) a)) (Refused (faultOf b a) 0)
+unfolding ifEq faultOf shortGroup
+shortClosed b a = ifEq (faultOf b a) 0 (Accepted (shortGroup b a)) (Refused (faultOf b a) 0)
 
 by-fault : (f u : ℕ) (x : Summary) → asObject u (ifEq f 0 (Accepted x) (Refused f 0)) ≡ closedBy f x u
 unfolding ifEq closedBy asObject
@@ -52,11 +52,11 @@ by-fault f u x = go (eqb f 0)
     go false = refl
 
 closed-is : (b u : ℕ) (xs : Items) → asObject u (shortClosed b (sumOf xs)) ≡ answerObject (closing (shortWrap b) u xs)
-unfolding ifEq shortClosed faultOf shortKind shortWrap asObject wrapOf closedOf
+unfolding ifEq shortClosed faultOf shortGroup shortWrap asObject wrapOf closedOf
 closed-is b u xs =
-    split-eq b 0xc3 (λ e. rw (eq-true b 0xc3 e) (by-fault (edtFault (sumOf xs)) u (groupOf 8 (sumOf xs)) ∙ sym (closed-answer Edt u xs)))
+    split-eq b 0xc3 (λ e. rw (eq-true b 0xc3 e) (by-fault (edtFault (sumOf xs)) u (edtOf (sumOf xs)) ∙ sym (closed-answer Edt u xs)))
     (λ n. rw (eq-false b 0xc3 n)
-    (split-eq b 0xc5 (λ e. rw (eq-true b 0xc5 e) (by-fault (ustrucFault (sumOf xs)) u (groupOf (strucKind (sumOf xs .mix)) (sumOf xs)) ∙ sym (closed-answer Ustruc u xs)))
+    (split-eq b 0xc5 (λ e. rw (eq-true b 0xc5 e) (by-fault (ustrucFault (sumOf xs)) u (strucOf (sumOf xs)) ∙ sym (closed-answer Ustruc u xs)))
     (λ m. rw (eq-false b 0xc5 m) (sym (closed-answer Struc u xs)))))
 
 -- ---- contents that are all CHARs
@@ -84,16 +84,16 @@ chars-fault n = go (eqb n 1)
 -- a container of n CHARs
 unfoldable shortText : ℕ → ℕ → Scanned
 unfolding ifEq textFault
-shortText b n = ifEq (textFault b) 0 (Accepted (oneOf 9 (n + 1) 0)) (Refused (textFault b) 0)
+shortText b n = ifEq (textFault b) 0 (Accepted (textOf (n + 1))) (Refused (textFault b) 0)
 
 chars-closed : (b n : ℕ) → n ≤ 127 → shortText b n ≡ shortClosed b (chars n)
-unfolding ifEq shortText textFault shortClosed faultOf ustrucFault shortKind chars strucKind
+unfolding ifEq shortText textFault shortClosed faultOf ustrucFault shortGroup chars strucOf strucLead
 chars-closed b n h =
     let r : cap (cap n + cap 1) ≡ n + 1 = omega arith in
     split-eq b 0xc3 (λ e. rw (eq-true b 0xc3 e, chars-fault _) refl)
     (λ n. rw (eq-false b 0xc3 n)
-    (split-eq b 0xc5 (λ e. rw (eq-true b 0xc5 e) (ap (λ x. Accepted (oneOf 9 x 0)) (sym r)))
-    (λ m. rw (eq-false b 0xc5 m) (ap (λ x. Accepted (oneOf 9 x 0)) (sym r)))))
+    (split-eq b 0xc5 (λ e. rw (eq-true b 0xc5 e) (ap (λ x. Accepted (textOf x)) (sym r)))
+    (λ m. rw (eq-false b 0xc5 m) (ap (λ x. Accepted (textOf x)) (sym r)))))
 
 chars-say : (d : ℕ) (c : List ℕ) → Between 0 0x7f 0 (length c) c → (xs : Items) × (reads d c ≡ says xs) × (sumOf xs ≡ powerOf (length c) (oneOf 3 1 0))
 unfolding onto
@@ -107,12 +107,12 @@ chars-say d c w =
 
 -- ---- one such object, by its contents c
 module _ (d b : ℕ) (c : List ℕ) where
-  pub string-is : b ≡ 0xc6 → length c ≤ 127 → (a : Summary) → a ≡ oneOf 9 (length c + 1) 0
+  pub string-is : b ≡ 0xc6 → length c ≤ 127 → (a : Summary) → a ≡ textOf (length c + 1)
       → asObject (1 + length c) (Accepted a) ≡ answerObject (shortObject d b c)
   unfolding asObject answerObject shortObject
   string-is e h a f =
       let r : cap (length c + 1) ≡ length c + 1 = omega arith in
-      rw e (ap (λ z. Got z (1 + length c)) (f ∙ ap (λ n. oneOf 9 n 0) (sym r) ∙ sym (sum-text c (length c) refl)))
+      rw e (ap (λ z. Got z (1 + length c)) (f ∙ ap textOf (sym r) ∙ sym (sum-text c (length c) refl)))
 
   -- a container
   module _ (n : b ≢ 0xc6) where
@@ -129,7 +129,7 @@ module _ (d b : ℕ) (c : List ℕ) where
     unfolding shortClosed
     faulty f a z e = ap (λ k. Refused k 0) e ∙ sym (ifEq-no _ _ _ _ (λ y. z (e ∙ y)))
 
-    whole : (f : ℕ) (a x : Summary) → f ≡ 0 → f ≡ faultOf b a → x ≡ groupOf (shortKind b (a .mix)) a → Accepted x ≡ shortClosed b a
+    whole : (f : ℕ) (a x : Summary) → f ≡ 0 → f ≡ faultOf b a → x ≡ shortGroup b a → Accepted x ≡ shortClosed b a
     unfolding shortClosed
     whole f a x z e g = ap Accepted g ∙ sym (ifEq-yes _ _ _ _ (sym e ∙ z))
 
@@ -144,7 +144,7 @@ module _ (d b : ℕ) (c : List ℕ) where
       unfolding shortText
       chars-refused z = ap (asObject (1 + length c)) (ap (λ k. Refused k 0) e ∙ sym (ifEq-no _ _ _ _ (λ y. z (e ∙ y)))) ∙ chars-are
 
-      pub chars-accepted : f ≡ 0 → (a : Summary) → a ≡ oneOf 9 (length c + 1) 0 → asObject (1 + length c) (Accepted a) ≡ answerObject (shortObject d b c)
+      pub chars-accepted : f ≡ 0 → (a : Summary) → a ≡ textOf (length c + 1) → asObject (1 + length c) (Accepted a) ≡ answerObject (shortObject d b c)
       unfolding shortText
       chars-accepted z a y = ap (asObject (1 + length c)) (ap Accepted y ∙ sym (ifEq-yes _ _ _ _ (sym e ∙ z))) ∙ chars-are
 
@@ -164,7 +164,7 @@ module _ (d b : ℕ) (c : List ℕ) where
       pub short-faulty : f ≢ 0 → asObject (1 + length c) (Refused f 0) ≡ answerObject (shortObject d b c)
       short-faulty z = closed-as (Refused f 0) (faulty f a z e)
 
-      pub short-whole : f ≡ 0 → (x : Summary) → x ≡ groupOf (shortKind b (a .mix)) a → asObject (1 + length c) (Accepted x) ≡ answerObject (shortObject d b c)
+      pub short-whole : f ≡ 0 → (x : Summary) → x ≡ shortGroup b a → asObject (1 + length c) (Accepted x) ≡ answerObject (shortObject d b c)
       short-whole z x g = closed-as (Accepted x) (whole f a x z e g)
 
 -- ---- where the run's loop finds one

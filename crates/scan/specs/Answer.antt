@@ -2,7 +2,7 @@
 use Prim.Native.Nat.{ℕ}
 use Rattle.format.specs.Choice.{ifEq}
 use Rattle.format.specs.Refusals.{several-kinds, bad-edt}
-use Rattle.format.specs.Items.{INT, STRING, EDT}
+use Rattle.format.specs.Items.{INT}
 use Rattle.format.specs.Messages as M
 use Rattle.wire.specs.declared.head.Wrap.{Wrap}
 use Rattle.wire.specs.declared.head.Wrap.the-variants.{Struc, Ustruc, Edt, Repeat}
@@ -11,7 +11,7 @@ use Rattle.scan.specs.declared.Scanned.{Scanned}
 use Rattle.scan.specs.declared.Scanned.the-variants.{Refused, Accepted}
 use Rattle.scan.specs.declared.closing.Object.{Object}
 use Rattle.scan.specs.declared.closing.Object.the-variants.{Bad, Got}
-use Rattle.scan.specs.Sums.{sumOf, powerOf, strucKind, groupOf}
+use Rattle.scan.specs.Sums.{STRING, sumOf, powerOf, strucOf, edtOf}
 
 unfoldable pub answer : M.Outcome → Scanned
 unfolding sumOf
@@ -39,8 +39,8 @@ closedBy f x u = ifEq f 0 (Got x u) (Bad f 0)
 
 -- a container, from what its contents come to
 unfoldable pub closedOf : Wrap → Summary → ℕ → Object
-unfolding strucKind ustrucFault edtFault closedBy powerOf
-closedOf Struc a u = Got (groupOf (strucKind (a .mix)) a) u
-closedOf Ustruc a u = closedBy (ustrucFault a) (groupOf (strucKind (a .mix)) a) u
-closedOf Edt a u = closedBy (edtFault a) (groupOf EDT a) u
+unfolding strucOf ustrucFault edtFault closedBy powerOf
+closedOf Struc a u = Got (strucOf a) u
+closedOf Ustruc a u = closedBy (ustrucFault a) (strucOf a) u
+closedOf Edt a u = closedBy (edtFault a) (edtOf a) u
 closedOf (Repeat k) a u = Got (powerOf k a) u

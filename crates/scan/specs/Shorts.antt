@@ -4,7 +4,7 @@ use mathlib.Core.List.{List}
 use lib.ListN.{length}
 use Rattle.format.specs.Choice.{ifEq}
 use Rattle.format.specs.Refusals.{bad-edt}
-use Rattle.format.specs.Items.{EDT, struc, end, group}
+use Rattle.format.specs.Items.{struc, end, group}
 use Rattle.format.specs.Objects.{characters}
 use Rattle.format.specs.Messages as M
 use Rattle.wire.specs.Heads.{shortWrap}
@@ -13,7 +13,7 @@ use Rattle.scan.specs.declared.Scanned.{Scanned}
 use Rattle.scan.specs.declared.Scanned.the-variants.{Refused, Accepted}
 use Rattle.scan.specs.declared.closing.Object.{Object}
 use Rattle.scan.specs.declared.closing.Object.the-variants.{Bad, Got}
-use Rattle.scan.specs.Sums.{strucKind}
+use Rattle.scan.specs.Sums.{strucOf, edtOf}
 use Rattle.scan.specs.Answer.{ustrucFault, edtFault}
 
 -- the object of the type-byte C2, C3, C5 or C6 whose contents are c, with d containers around it
@@ -31,10 +31,10 @@ unfoldable pub faultOf : ℕ → Summary → ℕ
 unfolding ifEq ustrucFault edtFault
 faultOf b a = ifEq b 0xc3 (edtFault a) (ifEq b 0xc5 (ustrucFault a) 0)
 
--- the kind of a container by its type-byte and the kinds met
-unfoldable pub shortKind : ℕ → ℕ → ℕ
-unfolding ifEq strucKind
-shortKind b m = ifEq b 0xc3 EDT (strucKind m)
+-- the item that a container is, by its type-byte
+unfoldable pub shortGroup : ℕ → Summary → Summary
+unfolding ifEq strucOf
+shortGroup b a = ifEq b 0xc3 (edtOf a) (strucOf a)
 
 -- a container of CHARs alone: its refusal, or 0
 unfoldable pub textFault : ℕ → ℕ

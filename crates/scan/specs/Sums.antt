@@ -3,8 +3,8 @@
 use Prim.Native.Nat.{ℕ, _+_, _*_, min}
 use mathlib.Core.List.{List, [], _∷_}
 use lib.ListN.{length}
-use Rattle.format.specs.Choice.{ifEq}
-use Rattle.format.specs.Items.{Items, CHAR, STRUC, STRING, kinds}
+use Rattle.format.specs.Choice.{pick, ifEq}
+use Rattle.format.specs.Items.{Group, struc, edt, Items, end, leaf, group, CHAR, STRUC, EDT, leafKind, kinds, isString}
 use Rattle.format.specs.Tables.{rows, dataWords}
 use Rattle.scan.specs.declared.summary.Summary.{Summary}
 
@@ -12,7 +12,7 @@ use Rattle.scan.specs.declared.summary.Summary.{Summary}
 abbrev pub cap : ℕ → ℕ
 cap n = min n 65536
 
--- the kinds met: 0 none, 255 several, else the one
+-- For a USTRUC, the kinds met: 0 none, 255 several, else the one.
 unfoldable pub mixed : ℕ → ℕ → ℕ
 unfolding ifEq
 mixed a b = ifEq a 0 b (ifEq b 0 a (ifEq a b a 255))
@@ -22,7 +22,22 @@ unfolding mixed
 mixOf [] = 0
 mixOf (k ∷ ks) = mixed k (mixOf ks)
 
--- the first two kinds, 0 where there is none
+-- For an EDT, what stands first and second to it: the kind of an element, with a code of its own for a string.
+abbrev pub STRING : ℕ
+STRING = 9
+
+unfoldable pub groupLead : Group → Items → ℕ
+unfolding pick isString
+groupLead struc c = pick (isString c) STRING STRUC
+groupLead edt c = EDT
+
+unfoldable pub leads : Items → List ℕ
+unfolding leafKind groupLead
+leads end = []
+leads (leaf l xs) = leafKind l ∷ leads xs
+leads (group g c xs) = groupLead g c ∷ leads xs
+
+-- the first two, 0 where there is none
 unfoldable pub firstOf : List ℕ → ℕ
 firstOf [] = 0
 firstOf (k ∷ ks) = k
@@ -33,23 +48,30 @@ secondOf [] = 0
 secondOf (k ∷ ks) = firstOf ks
 
 unfoldable pub sumOf : Items → Summary
-unfolding rows dataWords kinds mixOf firstOf secondOf
+unfolding rows dataWords kinds mixOf leads firstOf secondOf
 sumOf xs =
     record {
       rows = cap (rows xs);
       words = cap (length (dataWords xs));
       mix = mixOf (kinds xs);
-      first = firstOf (kinds xs);
-      second = secondOf (kinds xs);
+      first = firstOf (leads xs);
+      second = secondOf (leads xs);
     }
 
 -- no items
 abbrev pub nothingOf : Summary
 nothingOf = record { rows = 0; words = 0; mix = 0; first = 0; second = 0 }
 
--- one item of kind k, with r rows and d data words
+-- one item of kind k, the lead l, with r rows and d data words
+abbrev pub elementOf : ℕ → ℕ → ℕ → ℕ → Summary
+elementOf k l r d = record { rows = r; words = d; mix = k; first = l; second = 0 }
+
+-- one without elements; a string
 abbrev pub oneOf : ℕ → ℕ → ℕ → Summary
-oneOf k r d = record { rows = r; words = d; mix = k; first = k; second = 0 }
+oneOf k r d = elementOf k k r d
+
+abbrev pub textOf : ℕ → Summary
+textOf r = elementOf STRUC STRING r 0
 
 unfoldable pub orElse : ℕ → ℕ → ℕ
 unfolding ifEq
@@ -71,7 +93,7 @@ plusOf a b =
       second = secondSum a b;
     }
 
--- k times, k not 0: two of them settle the second kind
+-- k times, k not 0: two of them settle the second lead
 unfoldable pub secondPower : ℕ → Summary → ℕ
 unfolding ifEq orElse
 secondPower k a = ifEq k 1 (a .second) (orElse (a .second) (a .first))
@@ -88,11 +110,18 @@ powerOf k a =
       second = secondPower k a;
     })
 
--- the kind of a STRUC by the kinds of its elements
-unfoldable pub strucKind : ℕ → ℕ
+-- what a STRUC is to an EDT, by the kinds of its elements
+unfoldable pub strucLead : ℕ → ℕ
 unfolding ifEq
-strucKind m = ifEq m 0 STRING (ifEq m CHAR STRING STRUC)
+strucLead m = ifEq m 0 STRING (ifEq m CHAR STRING STRUC)
 
--- a container of kind k
-abbrev pub groupOf : ℕ → Summary → Summary
-groupOf k a = oneOf k (cap (cap (a .rows) + cap 1)) (cap (a .words))
+-- a container of kind k, the lead l
+abbrev pub groupOf : ℕ → ℕ → Summary → Summary
+groupOf k l a = elementOf k l (cap (cap (a .rows) + cap 1)) (cap (a .words))
+
+unfoldable pub strucOf : Summary → Summary
+unfolding strucLead
+strucOf a = groupOf STRUC (strucLead (a .mix)) a
+
+abbrev pub edtOf : Summary → Summary
+edtOf a = groupOf EDT EDT a

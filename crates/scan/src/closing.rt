@@ -1,8 +1,7 @@
 // How a container closes over what its contents come to.
 ghost use mathlib.Core.Path.{_≡_};
 ghost use Rattle.scan.specs.Answer.{ustrucFault, edtFault, closedBy, closedOf};
-ghost use Rattle.scan.specs.Sums.{groupOf};
-ghost use Rattle.scan.specs.Shorts.{faultOf, textFault, shortKind};
+ghost use Rattle.scan.specs.Shorts.{faultOf, textFault, shortGroup};
 use super::summary::INT;
 use super::summary::SEVERAL;
 use super::summary::STRING;
@@ -66,7 +65,7 @@ pub fn text_fault(b: u8) -> usize
 
 // The item that such a container is.
 pub fn group_of(b: u8, a: Summary) -> Summary
-    ensures { λ r. ⌜ r ≡ groupOf (shortKind b (a .mix)) a ⌝ }
+    ensures { λ r. ⌜ r ≡ shortGroup b a ⌝ }
 {
     if is_edt(b) {
         return edt(a);

@@ -19,7 +19,6 @@ use closing::text_fault;
 use format::tree::is_non_atomic;
 use stretch::all_chars;
 use stretch::leap_from;
-use summary::STRING;
 use summary::Summary;
 use summary::bits_of;
 use summary::capped;
@@ -27,6 +26,7 @@ use summary::nothing;
 use summary::one_of;
 use summary::plus;
 use summary::plus_many;
+use summary::text_of;
 use wire::head::Head;
 use wire::head::head_of;
 use wire::short::is_string;
@@ -92,14 +92,14 @@ fn scan_short(depth: usize, b: u8, c: &[u8]) -> Scanned
 {
     let n = c.len();
     if is_string(b) {
-        return Scanned::Accepted(one_of(STRING, n + 1, 0));
+        return Scanned::Accepted(text_of(n + 1));
     }
     if all_chars(c) {
         let fault = text_fault(b);
         if fault != 0 {
             return Scanned::Refused(fault, 0);
         }
-        return Scanned::Accepted(one_of(STRING, n + 1, 0));
+        return Scanned::Accepted(text_of(n + 1));
     }
     let r = scan_run(depth + 1, c);
     match r {
@@ -126,7 +126,7 @@ fn scan_object(depth: usize, b: u8, s: &[u8]) -> Object
         Head::Row(kind, _, past) => Object::Got(one_of(kind as usize, 1, 0), past),
         Head::Short(n, _, past) => Object::Got(bits_of(n), past),
         Head::Long(_, n, past) => Object::Got(bits_of(n), past),
-        Head::Text(a, n) => Object::Got(one_of(STRING, capped(n + 1), 0), a + n),
+        Head::Text(a, n) => Object::Got(text_of(capped(n + 1)), a + n),
         Head::Open(w, a, n) => {
             let e = a + n;
             let r = scan_run(depth + 1, &s[a..e]);

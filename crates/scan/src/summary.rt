@@ -2,9 +2,9 @@
 ghost use mathlib.Core.Path.{_≡_};
 ghost use Prim.Native.Nat.{_+_, _*_, _/_, _≤_};
 ghost use Rattle.format.specs.Bits.{wordsFor};
-ghost use Rattle.scan.specs.Sums.{cap, mixed, orElse, secondSum, secondPower, nothingOf, oneOf, plusOf, powerOf, strucKind, groupOf};
+ghost use Rattle.scan.specs.Sums.{cap, mixed, orElse, secondSum, secondPower, nothingOf, elementOf, oneOf, textOf, plusOf, powerOf, strucLead, groupOf, strucOf, edtOf};
 
-// The kinds that the rules name, as the table has them, with 9 for a string.
+// The kinds, as the table has them.
 pub const INT: usize = 1;
 
 pub const BITS: usize = 2;
@@ -21,13 +21,17 @@ pub const STRUC: usize = 7;
 
 pub const EDT: usize = 8;
 
-pub const STRING: usize = 9;
-
-// In the place of a kind: more than one.
+// In the place of a kind met: more than one.
 pub const SEVERAL: usize = 255;
 
-// Rows and data words are counted up to 65,536 and no further. `mix` is the kinds met: 0 none, SEVERAL, or else the one.
-// `first` and `second` are the first two kinds, 0 where there is none.
+// In the place of a lead's kind: a string.
+pub const STRING: usize = 9;
+
+// What is told of a run of elements.
+// For the table: `rows` and `words`, the data words, each counted up to 65,536 and no further.
+// For a USTRUC: `mix`, the kinds met: 0 none, SEVERAL, or else the one. The class of an element is enough to know its kind. A STRUC
+// is a string where they are none or CHAR.
+// For an EDT: its leads `first` and `second`, the first two elements: 0 where there is none, STRING, or else the kind.
 pub struct Summary {
     pub rows: usize,
     pub words: usize,
@@ -77,7 +81,7 @@ fn or_else(a: usize, b: usize) -> usize
     if a == 0 { b } else { a }
 }
 
-// The second kind of one run after another.
+// The second lead of one run after another.
 fn second_of(a: Summary, b: Summary) -> usize
     ensures { λ r. ⌜ r ≡ secondSum a b ⌝ }
 {
@@ -100,17 +104,31 @@ pub fn nothing() -> Summary
     }
 }
 
-// One element of a kind, with the rows and the data words that it has.
-pub fn one_of(kind: usize, rows: usize, words: usize) -> Summary
-    ensures { λ r. ⌜ r ≡ oneOf kind rows words ⌝ }
+// One element of a kind, which is such a lead, with the rows and the data words that it has.
+fn element(kind: usize, lead: usize, rows: usize, words: usize) -> Summary
+    ensures { λ r. ⌜ r ≡ elementOf kind lead rows words ⌝ }
 {
     Summary {
         rows,
         words,
         mix: kind,
-        first: kind,
+        first: lead,
         second: 0,
     }
+}
+
+// One that has no elements itself: its kind is all that an EDT asks.
+pub fn one_of(kind: usize, rows: usize, words: usize) -> Summary
+    ensures { λ r. ⌜ r ≡ oneOf kind rows words ⌝ }
+{
+    element(kind, kind, rows, words)
+}
+
+// A string, with its rows.
+pub fn text_of(rows: usize) -> Summary
+    ensures { λ r. ⌜ r ≡ textOf rows ⌝ }
+{
+    element(STRUC, STRING, rows, 0)
 }
 
 // A BITS of n bits.
@@ -134,7 +152,7 @@ pub fn plus(a: Summary, b: Summary) -> Summary
     }
 }
 
-// The second kind of a run that stands k times, k not 0: two of them settle it.
+// The second lead of a run that stands k times, k not 0: two of them settle it.
 fn second_power(k: usize, a: Summary) -> usize
     ensures { λ r. ⌜ r ≡ secondPower k a ⌝ }
 {
@@ -167,9 +185,9 @@ pub fn plus_many(a: Summary, kind: usize, many: usize) -> Summary
     plus(a, power(many, one_of(kind, 1, 0)))
 }
 
-// A STRUC whose elements are all CHAR, the empty one included, is a string.
-fn struc_kind(mix: usize) -> usize
-    ensures { λ r. ⌜ r ≡ strucKind mix ⌝ }
+// A STRUC whose elements are all CHAR, the empty one included, is a string. Told from the kinds met.
+fn struc_lead(mix: usize) -> usize
+    ensures { λ r. ⌜ r ≡ strucLead mix ⌝ }
 {
     if mix == 0 {
         return STRING;
@@ -180,21 +198,21 @@ fn struc_kind(mix: usize) -> usize
     STRUC
 }
 
-// A container of a kind around elements that come to a.
-fn group(kind: usize, a: Summary) -> Summary
-    ensures { λ r. ⌜ r ≡ groupOf kind a ⌝ }
+// A container of a kind, which is such a lead, around elements that come to a.
+fn group(kind: usize, lead: usize, a: Summary) -> Summary
+    ensures { λ r. ⌜ r ≡ groupOf kind lead a ⌝ }
 {
-    one_of(kind, sum_capped(a.rows, 1), capped(a.words))
+    element(kind, lead, sum_capped(a.rows, 1), capped(a.words))
 }
 
 pub fn struc(a: Summary) -> Summary
-    ensures { λ r. ⌜ r ≡ groupOf (strucKind (a .mix)) a ⌝ }
+    ensures { λ r. ⌜ r ≡ strucOf a ⌝ }
 {
-    group(struc_kind(a.mix), a)
+    group(STRUC, struc_lead(a.mix), a)
 }
 
 pub fn edt(a: Summary) -> Summary
-    ensures { λ r. ⌜ r ≡ groupOf 8 a ⌝ }
+    ensures { λ r. ⌜ r ≡ edtOf a ⌝ }
 {
-    group(EDT, a)
+    group(EDT, EDT, a)
 }

@@ -9,6 +9,7 @@ mod item_notation;
 mod lent;
 mod makers;
 mod notation;
+mod objects_within;
 mod plain;
 mod random;
 mod requests;

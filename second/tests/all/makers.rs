@@ -22,8 +22,15 @@ fn object(chance: &mut Chance, inside: usize) -> Vec<u8> {
             let length = chance.below(12);
             sized(chance, 0xC6, &[0x41; 12][..length])
         }
-        9 | 10 if inside > 0 => repeat(chance, inside),
+        9 | 10 if inside > 0 => {
+            let pattern = run(chance, inside + 1);
+            repeat(chance, &pattern)
+        }
         11 => edt(chance, inside),
+        12 => {
+            let contents = strucs(chance, inside + 1);
+            sized(chance, 0xC5, &contents)
+        }
         _ => {
             let type_byte = chance.pick(&[0xC2, 0xC2, 0xC5]);
             let contents = run(chance, inside + 1);
@@ -83,8 +90,33 @@ fn edt(chance: &mut Chance, inside: usize) -> Vec<u8> {
     sized(chance, 0xC3, &contents)
 }
 
-fn repeat(chance: &mut Chance, inside: usize) -> Vec<u8> {
-    let pattern = run(chance, inside + 1);
+/// Strings and other STRUCs inside `inside` containers, some of them repeated.
+fn strucs(chance: &mut Chance, inside: usize) -> Vec<u8> {
+    let mut made = Vec::new();
+    for _ in 0..=chance.below(4) {
+        let struc = struc(chance, inside);
+        let repeated = chance.once_in(5);
+        made.extend(match repeated {
+            true => repeat(chance, &struc),
+            false => struc,
+        });
+    }
+    made
+}
+
+fn struc(chance: &mut Chance, inside: usize) -> Vec<u8> {
+    let (type_byte, contents) = match chance.below(3) {
+        0 => (0xC2, run(chance, inside + 1)),
+        1 => (chance.pick(&[0xC2, 0xC5]), integer(chance)),
+        _ => {
+            let length = chance.below(4);
+            (chance.pick(&[0xC2, 0xC5, 0xC6]), vec![0x41; length])
+        }
+    };
+    sized(chance, type_byte, &contents)
+}
+
+fn repeat(chance: &mut Chance, pattern: &[u8]) -> Vec<u8> {
     let count = match chance.below(100) {
         0 => vec![0xE0, 0x7F, 0xFF, 0xFF, 0xFF, 0xFF, 0xFF, 0xFF, 0xFF],
         1 => vec![0xE2, 0x01, 0x00],
@@ -93,7 +125,7 @@ fn repeat(chance: &mut Chance, inside: usize) -> Vec<u8> {
         _ => vec![chance.pick(&[0x80, 0x81, 0x82, 0x83, 0x85])],
     };
     let padding = vec![0xFF; if chance.once_in(5) { 3 } else { 0 }];
-    let contents = [padding, count, pattern].concat();
+    let contents = [&padding, &count, pattern].concat();
     sized(chance, 0xC4, &contents)
 }
 

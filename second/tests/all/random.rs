@@ -3,20 +3,25 @@
 use crate::agreement::{of_message, of_table};
 use crate::chance::Chance;
 use crate::makers;
+use crate::objects_within::has_mixed_ustruc;
 use crate::plain::{messages, tables};
 
 #[test]
 fn messages_by_chance() {
     let mut chance = Chance::seeded("messages_by_chance");
-    let mut accepted = 0;
+    let (mut accepted, mut mixed) = (0, 0);
     for _ in 0..120_000 {
         let message = makers::run(&mut chance, 0);
-        accepted += messages::items(&message).is_ok() as usize;
+        if messages::items(&message).is_ok() {
+            accepted += 1;
+            mixed += has_mixed_ustruc(&message) as usize;
+        }
         of_message(&message);
         of_message(&makers::changed(&mut chance, &message));
     }
-    println!("{accepted} accepted");
+    println!("{accepted} accepted, {mixed} with strings and other STRUCs in a USTRUC");
     assert!(accepted > 40_000);
+    assert!(mixed > 3_000);
 }
 
 #[test]

@@ -11,19 +11,19 @@ const AMPLE_WORDS: usize = 65_540;
 const AMPLE_BYTES: usize = 65_536;
 
 /// All the vectors, and how many of them have each key.
-const ALL: usize = 681;
+const ALL: usize = 977;
 const KEYS: [(&str, usize); 11] = [
-    ("message", 559),
+    ("message", 851),
     ("lent", 13),
-    ("read", 559),
-    ("items", 185),
-    ("table", 223),
+    ("read", 851),
+    ("items", 340),
+    ("table", 239),
     ("room", 19),
     ("normalise", 13),
-    ("normal", 255),
-    ("list", 25),
-    ("write", 122),
-    ("bytes", 23),
+    ("normal", 410),
+    ("list", 26),
+    ("write", 126),
+    ("bytes", 24),
 ];
 
 #[test]

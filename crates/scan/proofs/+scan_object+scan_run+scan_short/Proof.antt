@@ -36,6 +36,7 @@ use Rattle.scan.proofs.summary.nothing.Reads as nothing-reads
 use Rattle.scan.proofs.summary.one_of.Reads as one-of-reads
 use Rattle.scan.proofs.summary.plus.Reads as plus-reads
 use Rattle.scan.proofs.summary.plus_many.Reads as plus-many-reads
+use Rattle.scan.proofs.summary.text_of.Reads as text-of-reads
 use Rattle.format.proofs.tree.is_non_atomic.Reads as is-non-atomic-reads
 use Rattle.wire.proofs.head.head_of.Reads as head-of-reads
 use Rattle.wire.proofs.short.is_string.Reads as is-string-reads
@@ -88,6 +89,8 @@ scan-object-claims t = (
   bits-of-reads.Learnt,
   capped-reads.Asked,
   capped-reads.Learnt,
+  text-of-reads.Asked,
+  text-of-reads.Learnt,
   scan-run-below t,
   scan-run.Post,
   closed-reads.Asked,
@@ -118,8 +121,8 @@ abbrev scan-short-claims : ℕ → scan-short-lts.Claims
 scan-short-claims t = (
   is-string-reads.Asked,
   is-string-reads.Learnt,
-  one-of-reads.Asked,
-  one-of-reads.Learnt,
+  text-of-reads.Asked,
+  text-of-reads.Learnt,
   all-chars-reads.Asked,
   all-chars-reads.Learnt,
   text-fault-reads.Asked,
@@ -177,8 +180,8 @@ scan-object-add-capped t c =
 scan-object-capped-requires : (t : ℕ) → scan-object-lts.Need-capped-requires (scan-object-claims t) (scan-object-at t) scan-object.Post
 scan-object-capped-requires t c κs = search needs
 
-scan-object-one-of-requires-2 : (t : ℕ) → scan-object-lts.Need-one-of-requires-2 (scan-object-claims t) (scan-object-at t) scan-object.Post
-scan-object-one-of-requires-2 t c κs = search needs
+scan-object-text-of-requires : (t : ℕ) → scan-object-lts.Need-text-of-requires (scan-object-claims t) (scan-object-at t) scan-object.Post
+scan-object-text-of-requires t c κs = search needs
 
 scan-object-add-t32 : (t : ℕ) → scan-object-lts.Need-add-t32 (scan-object-claims t) (scan-object-at t) scan-object.Post
 scan-object-add-t32 t c =
@@ -259,7 +262,7 @@ scan-object-returns-5 t c =
 scan-object-returns-6 : (t : ℕ) → scan-object-lts.Need-returns-6 (scan-object-claims t) (scan-object-at t) scan-object.Post
 scan-object-returns-6 t c =
     text-is _ _ _ _ (c .before .before .before .before .before .head-of .ensures) _ _ _ (c .before .before .before .h5 .given .1)
-    (c .one-of2 .ensures ∙ rw (c .before .capped .ensures) refl)
+    (c .text-of .ensures ∙ rw (c .before .capped .ensures) refl)
 
 scan-object-returns-7 : (t : ℕ) → scan-object-lts.Need-returns-7 (scan-object-claims t) (scan-object-at t) scan-object.Post
 scan-object-returns-7 t c =
@@ -442,14 +445,14 @@ scan-run-returns-3 t c = inv-end _ _ _ _ (c .before .loop .inv) (c .loop-test .l
 scan-short-is-string-requires : (t : ℕ) → scan-short-lts.Need-is-string-requires (scan-short-claims t) (scan-short-at t) scan-short.Post
 scan-short-is-string-requires t c κs = search needs
 
-scan-short-add-one-of : (t : ℕ) → scan-short-lts.Need-add-one-of (scan-short-claims t) (scan-short-at t) scan-short.Post
-scan-short-add-one-of t c = search needs
+scan-short-add-text-of : (t : ℕ) → scan-short-lts.Need-add-text-of (scan-short-claims t) (scan-short-at t) scan-short.Post
+scan-short-add-text-of t c = search needs
 
-scan-short-one-of-requires : (t : ℕ) → scan-short-lts.Need-one-of-requires (scan-short-claims t) (scan-short-at t) scan-short.Post
-scan-short-one-of-requires t c κs = search needs
+scan-short-text-of-requires : (t : ℕ) → scan-short-lts.Need-text-of-requires (scan-short-claims t) (scan-short-at t) scan-short.Post
+scan-short-text-of-requires t c κs = search needs
 
 scan-short-returns : (t : ℕ) → scan-short-lts.Need-returns (scan-short-claims t) (scan-short-at t) scan-short.Post
-scan-short-returns t c = string-is _ _ _ (eqb-true _ _ (sym (c .before .before .is-string .ensures) ∙ c .before .if1 .taken)) (c .before .before .before .before .pre .1 .1) _ (c .one-of .ensures)
+scan-short-returns t c = string-is _ _ _ (eqb-true _ _ (sym (c .before .before .is-string .ensures) ∙ c .before .if1 .taken)) (c .before .before .before .before .pre .1 .1) _ (c .text-of .ensures)
 
 scan-short-all-chars-requires : (t : ℕ) → scan-short-lts.Need-all-chars-requires (scan-short-claims t) (scan-short-at t) scan-short.Post
 scan-short-all-chars-requires t c κs = search needs
@@ -462,17 +465,17 @@ scan-short-returns-2 t c =
     let p = c .before .before .before .before .before .before .before .pre .1 in
     chars-refused _ _ _ (eqb-false _ _ (sym (c .before .before .before .before .before .is-string .ensures) ∙ c .before .before .before .before .if1 .left)) (p .0) (p .1) (c .before .before .before .all-chars .ensures (c .before .before .if2 .taken)) _ (c .before .text-fault .ensures) (c .if3 .taken)
 
-scan-short-add-one-of-2 : (t : ℕ) → scan-short-lts.Need-add-one-of-2 (scan-short-claims t) (scan-short-at t) scan-short.Post
-scan-short-add-one-of-2 t c = search needs
+scan-short-add-text-of-2 : (t : ℕ) → scan-short-lts.Need-add-text-of-2 (scan-short-claims t) (scan-short-at t) scan-short.Post
+scan-short-add-text-of-2 t c = search needs
 
-scan-short-one-of-requires-2 : (t : ℕ) → scan-short-lts.Need-one-of-requires-2 (scan-short-claims t) (scan-short-at t) scan-short.Post
-scan-short-one-of-requires-2 t c κs = search needs
+scan-short-text-of-requires-2 : (t : ℕ) → scan-short-lts.Need-text-of-requires-2 (scan-short-claims t) (scan-short-at t) scan-short.Post
+scan-short-text-of-requires-2 t c κs = search needs
 
 scan-short-returns-3 : (t : ℕ) → scan-short-lts.Need-returns-3 (scan-short-claims t) (scan-short-at t) scan-short.Post
 scan-short-returns-3 t c =
     let p = c .before .before .before .before .before .before .before .before .pre .1 in
     chars-accepted _ _ _ (eqb-false _ _ (sym (c .before .before .before .before .before .before .is-string .ensures) ∙ c .before .before .before .before .before .if1 .left)) (p .0) (p .1) (c .before .before .before .before .all-chars .ensures (c .before .before .before .if2 .taken)) _ (c .before .before .text-fault .ensures) (c .before .if3 .left) _
-    (c .one-of2 .ensures)
+    (c .text-of2 .ensures)
 
 scan-short-add-scan-run : (t : ℕ) → scan-short-lts.Need-add-scan-run (scan-short-claims t) (scan-short-at t) scan-short.Post
 scan-short-add-scan-run t c = search needs
@@ -529,7 +532,7 @@ pub +scan-object+scan-run+scan-short-spec : {M : Type 1} → statement M
     (scan-object-enum-known-h-5 t)
     (scan-object-add-capped t)
     (scan-object-capped-requires t)
-    (scan-object-one-of-requires-2 t)
+    (scan-object-text-of-requires t)
     (scan-object-add-t32 t)
     (scan-object-enum-known-h-6 t)
     (scan-object-add-e t)
@@ -601,14 +604,14 @@ pub +scan-object+scan-run+scan-short-spec : {M : Type 1} → statement M
     (scan-short-at t)
     scan-short.Post
     (scan-short-is-string-requires t)
-    (scan-short-add-one-of t)
-    (scan-short-one-of-requires t)
+    (scan-short-add-text-of t)
+    (scan-short-text-of-requires t)
     (scan-short-returns t)
     (scan-short-all-chars-requires t)
     (scan-short-text-fault-requires t)
     (scan-short-returns-2 t)
-    (scan-short-add-one-of-2 t)
-    (scan-short-one-of-requires-2 t)
+    (scan-short-add-text-of-2 t)
+    (scan-short-text-of-requires-2 t)
     (scan-short-returns-3 t)
     (scan-short-add-scan-run t)
     (scan-short-scan-run-requires t)

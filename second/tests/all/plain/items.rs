@@ -32,6 +32,13 @@ pub fn kind(item: &Item) -> u64 {
     }
 }
 
+/// Whether a USTRUC may have these elements. All STRUCs are of one kind.
+pub fn are_of_one_kind(elements: &[Item]) -> bool {
+    elements
+        .iter()
+        .all(|element| kind(element) == kind(&elements[0]))
+}
+
 pub fn has_heads(elements: &[Item]) -> bool {
     match elements {
         [first, Int(_), ..] => matches!(first, Int(_)) || is_string(first),

@@ -2,7 +2,7 @@
 //! that no answer depends on.
 
 use super::items::Item::{self, Bits, Bool, Char, Edt, Empty, Int, Struc, Xtra};
-use super::items::{bits_of, data_words, has_heads, is_string, kind, rows, signed};
+use super::items::{are_of_one_kind, bits_of, data_words, has_heads, rows, signed};
 
 /// A refusal with its number and place.
 pub type Refusal = (u64, u64);
@@ -192,11 +192,7 @@ fn repeated(pattern: Vec<Item>, count: u64) -> Vec<Item> {
 }
 
 fn of_one_kind(elements: Vec<Item>, place: u64) -> Result<Vec<Item>, Refusal> {
-    let kinds = |item: &Item| (kind(item), is_string(item));
-    match elements
-        .iter()
-        .all(|element| kinds(element) == kinds(&elements[0]))
-    {
+    match are_of_one_kind(&elements) {
         true => Ok(elements),
         false => Err((8, place)),
     }

@@ -52,7 +52,7 @@ fn works(checker: &mut Checker, message: &[u8], said: &str, normal: &str) {
 #[test]
 fn the_worked_examples() {
     let mut checker = Checker::new();
-    let examples = rows("Message", 20);
+    let examples = rows("Message", 21);
     in_both_stacks(&mut checker, |checker| {
         for row in &examples {
             for cell in row[0].split(", ") {

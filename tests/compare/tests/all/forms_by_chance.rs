@@ -3,7 +3,9 @@
 //! structure that fits.
 
 use crate::chance::Chance;
-use crate::plain::items::{depth, is_string, kind, Item};
+use crate::items_by_chance;
+use crate::objects_within::has_mixed_ustruc;
+use crate::plain::items::{are_of_one_kind, depth, is_string, Item};
 
 const MOST_NESTED: usize = 16;
 
@@ -82,11 +84,7 @@ fn object(chance: &mut Chance, item: &Item, inside: usize) -> Vec<u8> {
         Item::Xtra(code) => vec![0xF8 + code],
         Item::Struc(elements) if is_string(item) && chance.once_in(3) => string(chance, elements),
         Item::Struc(elements) => {
-            let kinds = |element: &Item| (kind(element), is_string(element));
-            let uniform = elements
-                .windows(2)
-                .all(|two| kinds(&two[0]) == kinds(&two[1]));
-            let ustruc = uniform && chance.once_in(2);
+            let ustruc = are_of_one_kind(elements) && chance.once_in(2);
             let contents = run(chance, elements, inside + 1);
             sized(chance, if ustruc { 0xC5 } else { 0xC2 }, &contents)
         }
@@ -155,4 +153,17 @@ fn sized(chance: &mut Chance, type_byte: u8, contents: &[u8]) -> Vec<u8> {
         }
     };
     [vec![type_byte], told, contents.to_vec()].concat()
+}
+
+/// Strings and other STRUCs stand together in a USTRUC often enough.
+#[test]
+fn mixed_ustrucs_are_made() {
+    let mut chance = Chance::seeded("forms_by_chance::mixed_ustrucs_are_made");
+    let mut made = || {
+        let items = items_by_chance::items(&mut chance, 6);
+        message(&mut chance, &items)
+    };
+    let mixed = (0..5_000).filter(|_| has_mixed_ustruc(&made())).count();
+    println!("{mixed} of 5000 with strings and other STRUCs in a USTRUC");
+    assert!(mixed > 250);
 }

@@ -34,6 +34,7 @@ fn pattern(chance: &mut Chance) -> Vec<u8> {
         1 => sized(0xC5, b"AB"),
         2 => sized(0xC3, &[0x81, 0x82]),
         3 => vec![0xC2, 0x81, 0x00],
+        4 => vec![0xC2, 0x01, 0x81],
         _ => chance.pick(&leaves).to_vec(),
     }
 }

@@ -24,7 +24,7 @@ fn double_the_last(chance: &mut Chance, items: &mut Vec<Item>) {
 }
 
 fn item(chance: &mut Chance, depth: usize) -> Item {
-    match chance.below(12) {
+    match chance.below(13) {
         0..=2 => Item::Int(integer(chance)),
         3 => Item::Bits(bits(chance)),
         4 => Item::Char(chance.below(128) as u8),
@@ -34,6 +34,7 @@ fn item(chance: &mut Chance, depth: usize) -> Item {
         _ if depth == 0 => Item::Int(integer(chance)),
         8 => string(chance),
         9 => edt(chance, depth - 1),
+        10 if depth > 1 => Item::Struc(strucs(chance, depth - 2)),
         _ => Item::Struc(items(chance, depth - 1)),
     }
 }
@@ -71,6 +72,15 @@ fn string(chance: &mut Chance) -> Item {
 fn string_length(chance: &mut Chance) -> usize {
     let most = chance.pick(&[1, 5, 20, 140]);
     chance.below(most)
+}
+
+/// Strings and other STRUCs, which may stand together in a USTRUC.
+fn strucs(chance: &mut Chance, depth: usize) -> Vec<Item> {
+    let struc = |chance: &mut Chance| match chance.once_in(2) {
+        true => string(chance),
+        false => Item::Struc(items(chance, depth)),
+    };
+    (0..=chance.below(4)).map(|_| struc(chance)).collect()
 }
 
 fn edt(chance: &mut Chance, depth: usize) -> Item {

@@ -12,7 +12,6 @@ mod items_by_chance;
 mod lent;
 mod objects;
 mod pages;
-mod repeat_objects;
 mod rooms;
 mod small_stack;
 mod tables;
@@ -32,6 +31,8 @@ mod makers;
 #[allow(dead_code)]
 #[path = "../../../../second/tests/all/notation.rs"]
 mod notation;
+#[path = "../../../../second/tests/all/objects_within.rs"]
+mod objects_within;
 #[allow(dead_code)]
 #[path = "../../../../second/tests/all/plain/mod.rs"]
 mod plain;
@@ -49,5 +50,6 @@ mod normalising;
 mod normalising_pairs;
 
 mod format_page;
+mod kind_pairs;
 mod refusals_page;
 mod stretches;

@@ -4,7 +4,7 @@ use crate::chance::Chance;
 use crate::checker::Checker;
 use crate::damage::{damaged, TELLING};
 use crate::every::every_run;
-use crate::repeat_objects::has_repeat;
+use crate::objects_within::has_repeat;
 use crate::rooms::{AMPLE_BYTES, AMPLE_WORDS};
 use crate::small_stack::{by_chance, in_both_stacks, in_small_stack, report};
 use crate::vector_files::{with_key, Vector};
@@ -15,7 +15,7 @@ use std::hash::{DefaultHasher, Hash, Hasher};
 #[test]
 fn vectors() {
     let mut checker = Checker::new();
-    let vectors = with_key("message", 559);
+    let vectors = with_key("message", 851);
     in_both_stacks(&mut checker, |checker| {
         vectors
             .iter()

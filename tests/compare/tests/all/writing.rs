@@ -14,7 +14,7 @@ use crate::vector_files::{with_key, Vector};
 #[test]
 fn vectors() {
     let mut checker = Checker::new();
-    let vectors = with_key("write", 122);
+    let vectors = with_key("write", 126);
     in_both_stacks(&mut checker, |checker| {
         vectors
             .iter()

@@ -10,11 +10,11 @@ sum-capped-requires c κs = search needs
 capped-requires : tie.Need-capped-requires
 capped-requires c κs = search needs
 
-one-of-requires : tie.Need-one-of-requires
-one-of-requires c κs = search needs
+element-requires : tie.Need-element-requires
+element-requires c κs = search needs
 
 returns : tie.Need-returns
-returns c = c .one-of .ensures ∙ rw (c .before .capped .ensures, c .before .before .sum-capped .ensures) refl
+returns c = c .element .ensures ∙ rw (c .before .capped .ensures, c .before .before .sum-capped .ensures) refl
 
 pub group-spec : {M : Type 1} → statement M
-group-spec = tie.close (tie.spec sum-capped-requires capped-requires one-of-requires returns)
+group-spec = tie.close (tie.spec sum-capped-requires capped-requires element-requires returns)

@@ -39,6 +39,15 @@ fn integers_of_four_sizes() -> Vec<u8> {
     .concat()
 }
 
+/// A USTRUC of strings and other STRUCs: notes, each with its figures.
+fn notes_with_figures() -> Vec<u8> {
+    let chest = sized(0xC5, b"CHEST");
+    let measured = sized(0xC2, &[0xE2, 0x04, 0x1A, 0x81]);
+    let waist = sized(0xC6, b"WAIST");
+    let unknown = sized(0xC2, &[0xFE, 0x82]);
+    sized(0xC5, &[chest, measured, waist, unknown].concat())
+}
+
 fn nest_of_sixteen() -> Vec<u8> {
     (0..16).fold(vec![0x80], |inner, _| sized(0xC2, &inner))
 }
@@ -121,6 +130,10 @@ pub fn loads() -> Vec<Load> {
         load("a string of 16,380 as USTRUC", sized(0xC5, &string)),
         load("the same as STRING", sized(0xC6, &string)),
         load("strings of eight", sized(0xC5, b"MESSAGES").repeat(1_820)),
+        load(
+            "USTRUCs of strings and STRUCs",
+            notes_with_figures().repeat(862),
+        ),
         load("nests of sixteen", nest_of_sixteen().repeat(963)),
         load("a bit string of 60 KB", bit_string(60_000)),
         load(
