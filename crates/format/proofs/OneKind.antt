@@ -20,8 +20,8 @@ use Rattle.format.proofs.HeadCases.{by-fixed, by-container, by-sized, b
 use Rattle.format.proofs.Steps.{objectAt}
 
 -- ---- the class of an object tells the kind of its item, whatever it holds
--- What a class tells of the kinds of the items that stand there. Of a REPEAT the classes within its pattern tell them; what is
--- reserved is never accepted.
+-- What a class tells of the kinds of the items that stand there. A REPEAT has no item of its own, and nothing is claimed of it;
+-- what is reserved is never accepted.
 abbrev pub KindsBy : Class → List ℕ → Type 0
 KindsBy C.Char7 ks = ks ≡ CHAR ∷ []
 KindsBy C.Sinteger ks = ks ≡ INT ∷ []

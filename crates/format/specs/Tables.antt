@@ -57,6 +57,7 @@ leafB d (bool b) = bit b
 leafB d empty = 0
 leafB d (xtra n) = n
 
+-- "7 STRUC, 8 EDT": the kind of a row. What a USTRUC goes by (`groupKind`) is another rule, and has the same numbers.
 unfoldable pub rowKind : Group → ℕ
 rowKind struc = 7
 rowKind edt = 8

@@ -1,23 +1,22 @@
--- The kinds met and the leads, joined and repeated; and the rules about elements told from them. Assumes nothing.
+-- The kinds met, of lists of kinds joined and repeated; and what is told from them. Assumes nothing.
 use Prim.Native.Nat.{ℕ, _<_}
 use native.Mathlib.Omega.{arith}
 use mathlib.Core.Path.{_≡_, refl, sym, ap, _∙_}
 use mathlib.Core.Logic.{_≢_}
 use mathlib.Core.Bool.{Bool, true, false}
 use mathlib.Core.List.{List, [], _∷_, _++_}
-use lib.Dec.{eqb}
-use Rattle.format.specs.Choice.{pick, ifEq, both, either}
-use Rattle.format.specs.Items.{Leaf, int, bits, char, bool, empty, xtra, Group, struc, edt, Items, end, leaf, group, leafKind, groupKind, kinds, allOf, alike, isString, startsInt, startsString, behind, edtRule}
-use Rattle.format.proofs.Choices.{ifEq-yes, ifEq-no, eq-true, eq-false, split-eq, byEq, byPick}
+use Rattle.format.specs.Choice.{pick, ifEq}
+use Rattle.format.specs.Items.{Leaf, int, bits, char, bool, empty, xtra, Group, struc, edt, Items, end, leaf, group, leafKind, groupKind, kinds, allOf, alike}
+use Rattle.format.proofs.Choices.{ifEq-yes, ifEq-no, eq-true, eq-false, split-eq, byEq}
 use Rattle.format.proofs.TableLaws.{leaf-kind}
-use Rattle.scan.specs.Sums.{mixed, mixOf, groupLead, leads, firstOf, secondOf, orElse, strucLead}
+use Rattle.scan.specs.Sums.{mixed, mixOf, strucLead}
 
--- ---- codes of kinds and leads: neither that of none nor that of several
+-- ---- codes of kinds: neither that of none nor that of several
 abbrev pub Codes : List ℕ → Type 0
 Codes [] = Unit {0}
 Codes (k ∷ ks) = (0 < k) × (k < 255) × Codes ks
 
-leaf-code : (l : Leaf) → 0 < leafKind l
+pub leaf-code : (l : Leaf) → 0 < leafKind l
 unfolding leafKind
 leaf-code l = elim l [ int z ↦ omega arith | bits bs ↦ omega arith | char c ↦ omega arith | bool b ↦ omega arith | empty ↦ omega arith | xtra n ↦ omega arith ]
 
@@ -31,17 +30,6 @@ unfolding kinds
 kinds-codes end = tt
 kinds-codes (leaf l xs) = (leaf-code l, omega (arith, leaf-kind l), kinds-codes xs)
 kinds-codes (group g c xs) = (group-code g .0, group-code g .1, kinds-codes xs)
-
-lead-code : (g : Group) (c : Items) → (0 < groupLead g c) × (groupLead g c < 255)
-unfolding groupLead
-lead-code struc c = byPick (λ k. (0 < k) × (k < 255)) (isString c) (λ e. (omega arith, omega arith)) (λ e. (omega arith, omega arith))
-lead-code edt c = (omega arith, omega arith)
-
-pub leads-codes : (xs : Items) → Codes (leads xs)
-unfolding leads
-leads-codes end = tt
-leads-codes (leaf l xs) = (leaf-code l, omega (arith, leaf-kind l), leads-codes xs)
-leads-codes (group g c xs) = (lead-code g c .0, lead-code g c .1, leads-codes xs)
 
 -- ---- the kinds met
 mixed-first : (b : ℕ) → mixed 0 b ≡ b
@@ -94,31 +82,6 @@ mix-append (k ∷ a) b = ap (mixed k) (mix-append a b) ∙ sym (mixed-assoc k (m
 pub mix-again : (a b : List ℕ) → mixOf b ≡ mixOf a → mixOf (a ++ b) ≡ mixOf a
 mix-again a b e = mix-append a b ∙ ap (mixed (mixOf a)) e ∙ mixed-same (mixOf a)
 
--- ---- the leads
-pub first-append : (a b : List ℕ) → Codes a → firstOf (a ++ b) ≡ orElse (firstOf a) (firstOf b)
-unfolding firstOf orElse
-first-append [] b c = refl
-first-append (k ∷ a) b c = sym (ifEq-no k 0 _ _ (λ (z : k ≡ 0). omega (arith, c .0)))
-
-pub second-append : (a b : List ℕ) → Codes a → secondOf (a ++ b) ≡ ifEq (firstOf a) 0 (secondOf b) (orElse (secondOf a) (firstOf b))
-unfolding firstOf secondOf orElse
-second-append [] b c = refl
-second-append (k ∷ []) b c = sym (ifEq-no k 0 _ _ (λ (z : k ≡ 0). omega (arith, c .0)))
-second-append (k ∷ l ∷ a) b c =
-    sym (ifEq-no k 0 _ _ (λ (z : k ≡ 0). omega (arith, c .0)) ∙ ifEq-no l 0 _ _ (λ (z : l ≡ 0). omega (arith, c .2 .0)))
-
--- one of them settles the first, and two the second
-pub first-again : (a b : List ℕ) → (a ≡ [] → b ≡ []) → firstOf (a ++ b) ≡ firstOf a
-unfolding firstOf
-first-again [] b h = rw (h refl) refl
-first-again (k ∷ a) b h = refl
-
-pub second-again : (a b : List ℕ) → Codes a → (a ≡ [] → b ≡ []) → secondOf (a ++ (a ++ b)) ≡ orElse (secondOf a) (firstOf a)
-unfolding firstOf secondOf orElse
-second-again [] b c h = rw (h refl) refl
-second-again (k ∷ []) b c h = refl
-second-again (k ∷ l ∷ a) b c h = sym (ifEq-no l 0 _ _ (λ (z : l ≡ 0). omega (arith, c .2 .0)))
-
 -- ---- the rules
 mix-cons : (k : ℕ) (ks : List ℕ) → Codes (k ∷ ks) → mixOf (k ∷ ks) ≡ pick (allOf k ks) k 255
 unfolding mixOf allOf
@@ -145,8 +108,8 @@ several (k ∷ ks) x y c = rw (mix-cons k ks c) (go (allOf k ks))
     go true = ifEq-no k 255 _ _ (λ (z : k ≡ 255). omega (arith, c .1))
     go false = refl
 
--- what a STRUC is to an EDT
-struc-by : (ks : List ℕ) → Codes ks → strucLead (mixOf ks) ≡ pick (allOf 3 ks) 9 7
+-- a string is met exactly where the kinds are all CHAR
+pub struc-by : (ks : List ℕ) → Codes ks → strucLead (mixOf ks) ≡ pick (allOf 3 ks) 9 7
 unfolding strucLead mixOf allOf
 struc-by [] c = refl
 struc-by (k ∷ ks) c =
@@ -160,46 +123,3 @@ struc-by (k ∷ ks) c =
     other : k ≢ 3 → (t : Bool) → strucLead (pick t k 255) ≡ 7
     other n true = ifEq-no k 0 _ _ (λ (z : k ≡ 0). omega (arith, c .0)) ∙ ifEq-no k 3 _ _ n
     other n false = refl
-
-pub struc-lead : (c : Items) → strucLead (mixOf (kinds c)) ≡ groupLead struc c
-unfolding groupLead isString
-struc-lead c = struc-by (kinds c) (kinds-codes c)
-
--- an EDT's first two elements
-leads-int : (xs : Items) → eqb (firstOf (leads xs)) 1 ≡ startsInt xs
-unfolding leads firstOf startsInt groupLead
-leads-int end = refl
-leads-int (leaf l xs) = refl
-leads-int (group struc c xs) = byPick (λ k. eqb k 1 ≡ false) (isString c) (λ e. refl) (λ e. refl)
-leads-int (group edt c xs) = refl
-
-leads-string : (xs : Items) → eqb (firstOf (leads xs)) 9 ≡ startsString xs
-unfolding leads firstOf startsString groupLead
-leads-string end = refl
-leads-string (leaf l xs) = eq-false (leafKind l) 9 (λ (z : leafKind l ≡ 9). omega (arith, leaf-kind l))
-leads-string (group struc c xs) = go (isString c)
-  where
-    go : (t : Bool) → eqb (pick t 9 7) 9 ≡ t
-    go true = unfold pick in refl
-    go false = unfold pick in refl
-leads-string (group edt c xs) = refl
-
-leads-behind : (xs : Items) → secondOf (leads xs) ≡ firstOf (leads (behind xs))
-unfolding leads firstOf secondOf behind
-leads-behind end = refl
-leads-behind (leaf l xs) = refl
-leads-behind (group g c xs) = refl
-
-pub edt-leads : {X : Type 0} (xs : Items) (x y : X)
-    → ifEq (secondOf (leads xs)) 1 (ifEq (firstOf (leads xs)) 1 x (ifEq (firstOf (leads xs)) 9 x y)) y ≡ pick (edtRule xs) x y
-unfolding edtRule ifEq
-edt-leads xs x y =
-    rw (leads-behind xs, leads-int (behind xs), leads-int xs, leads-string xs) (go (startsInt xs) (startsString xs) (startsInt (behind xs)))
-  where
-    go : (p q r : Bool) → pick r (pick p x (pick q x y)) y ≡ pick (both (either p q) r) x y
-    go true q true = refl
-    go true q false = refl
-    go false true true = refl
-    go false true false = refl
-    go false false true = refl
-    go false false false = refl

@@ -1,5 +1,6 @@
 pub mod Told
 pub mod KindsMet
+pub mod Leads
 pub mod SumLaws
 pub mod Bounds
 pub mod Turns

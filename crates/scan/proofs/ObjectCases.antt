@@ -27,9 +27,10 @@ use Rattle.scan.specs.declared.summary.Summary.{Summary}
 use Rattle.scan.specs.declared.Scanned.the-variants.{Refused, Accepted}
 use Rattle.scan.specs.declared.closing.Object as D
 use Rattle.scan.specs.declared.closing.Object.the-variants.{Bad, Got}
-use Rattle.scan.specs.Sums.{cap, groupLead, sumOf, nothingOf, oneOf, textOf}
+use Rattle.scan.specs.Sums.{cap, lead, sumOf, nothingOf, oneOf, textOf}
 use Rattle.scan.specs.Answer.{answer, answerObject, ustrucFault, edtFault, closedBy, closedOf}
-use Rattle.scan.proofs.KindsMet.{kinds-codes, several, edt-leads}
+use Rattle.scan.proofs.KindsMet.{kinds-codes, several}
+use Rattle.scan.proofs.Leads.{edt-leads}
 use Rattle.scan.proofs.SumLaws.{sum-none, sum-row, sum-bits, sum-text, sum-group, sum-struc, sum-times}
 use Rattle.scan.proofs.Told.{refused-run, accepted-run}
 use Rattle.scan.proofs.Bounds.{HeadWithin, head-within, RunWithin, reads-within}
@@ -59,7 +60,7 @@ edt-by a x u = go (eqb (a .second) 1) (eqb (a .first) 1) (eqb (a .first) 9)
     go true false false = refl
 
 pub closed-answer : (w : Wrap) (u : ℕ) (xs : Items) → answerObject (closing (wrapOf w) u xs) ≡ closedOf w (sumOf xs) u
-unfolding closing wrapOf closedOf answerObject sumOf uniform groupKind groupLead
+unfolding closing wrapOf closedOf answerObject sumOf uniform groupKind lead
 closed-answer Struc u xs = ap (λ a. Got a u) (sum-struc xs)
 closed-answer Ustruc u xs =
     picked (uniform xs) _ _ ∙ ap (λ a. pick (uniform xs) (Got a u) (Bad 8 0)) (sum-struc xs) ∙ sym (several (kinds xs) _ _ (kinds-codes xs)) ∙ sym (ustruc-by (sumOf xs) _ u)

@@ -7,16 +7,17 @@ use mathlib.Core.Bool.{Bool, true}
 use mathlib.Core.List.{List, [], _∷_, _++_}
 use lib.ListN.{length, length-append}
 use Rattle.format.specs.Bits.{wordsFor}
-use Rattle.format.specs.Items.{Leaf, bits, Group, struc, Items, end, leaf, group, one, join, times, leafKind, groupKind, kinds, isString}
+use Rattle.format.specs.Items.{Leaf, bits, Group, struc, Items, end, group, one, join, times, leafKind, groupKind, kinds, isString, behind}
 use Rattle.format.specs.Tables.{rows, leafWords, dataWords}
 use Rattle.format.specs.Objects.{characters}
 use Rattle.format.proofs.Choices.{ifEq-no, split}
 use Rattle.format.proofs.BitLaws.{packed-length}
 use Rattle.format.proofs.Counts.{times-zero, times-suc, join-end, words, rows-join, words-join, kinds-join, rows-times, words-times}
 use Rattle.scan.specs.declared.summary.Summary.{Summary}
-use Rattle.scan.specs.Sums.{cap, mixOf, groupLead, leads, firstOf, secondOf, sumOf, nothingOf, oneOf, textOf, plusOf, secondSum, secondPower, powerOf, groupOf, strucOf}
+use Rattle.scan.specs.Sums.{cap, mixOf, lead, sumOf, nothingOf, oneOf, textOf, plusOf, secondSum, secondPower, powerOf, groupOf, strucOf}
 use Rattle.scan.proofs.Told.{sum-rows, sum-words}
-use Rattle.scan.proofs.KindsMet.{leads-codes, mixed-none, mix-append, mix-again, first-append, second-append, first-again, second-again, struc-lead}
+use Rattle.scan.proofs.KindsMet.{mixed-none, mix-append, mix-again}
+use Rattle.scan.proofs.Leads.{lead-join, second-join, lead-times, second-times, struc-lead}
 
 -- summaries by their components
 same-sum : (r r′ w w′ m m′ f f′ g g′ : ℕ) → r ≡ r′ → w ≡ w′ → m ≡ m′ → f ≡ f′ → g ≡ g′
@@ -40,14 +41,14 @@ pub sum-bits : (bs : List Bool) (n : ℕ) → length bs ≡ n → wordsFor n ≤
 unfolding leafKind leafWords
 sum-bits bs n e h = sum-leaf (bits bs) 2 (wordsFor n) refl (packed-length 64 (wordsFor (length bs)) bs ∙ ap wordsFor e) h
 
-pub sum-group : (g : Group) (xs : Items) → sumOf (group g xs end) ≡ groupOf (groupKind g) (groupLead g xs) (sumOf xs)
+pub sum-group : (g : Group) (xs : Items) → sumOf (group g xs end) ≡ groupOf (groupKind g) (lead (group g xs end)) (sumOf xs)
 unfolding sumOf
 sum-group g xs =
     same-sum _ _ _ _ _ _ _ _ _ _ (omega arith) (omega (arith, length-append (dataWords xs) [])) (mixed-none (groupKind g)) refl refl
 
 pub sum-struc : (xs : Items) → sumOf (group struc xs end) ≡ strucOf (sumOf xs)
 unfolding sumOf strucOf groupKind
-sum-struc xs = sum-group struc xs ∙ ap (λ l. groupOf 7 l (sumOf xs)) (sym (struc-lead xs))
+sum-struc xs = sum-group struc xs ∙ ap (λ l. groupOf 7 l (sumOf xs)) (sym (struc-lead xs end))
 
 -- a string
 text-rows : (s : List ℕ) → rows (characters s) ≡ length s
@@ -66,7 +67,7 @@ text-all [] = refl
 text-all (b ∷ s) = text-all s
 
 pub sum-text : (s : List ℕ) (n : ℕ) → length s ≡ n → sumOf (group struc (characters s) end) ≡ textOf (cap (n + 1))
-unfolding groupKind groupLead
+unfolding groupKind lead
 sum-text s n e = sum-group struc (characters s) ∙ rw (text-all s) (same s n e)
   where
     same : (s : List ℕ) (n : ℕ) → length s ≡ n → groupOf 7 9 (sumOf (characters s)) ≡ textOf (cap (n + 1))
@@ -75,20 +76,12 @@ sum-text s n e = sum-group struc (characters s) ∙ rw (text-all s) (same s n e)
         (omega (arith, sum-words (characters s), ap length (text-words s))) refl refl refl
 
 -- ---- one list after another
-leads-join : (xs ys : Items) → leads (join xs ys) ≡ leads xs ++ leads ys
-unfolding leads join
-leads-join end ys = refl
-leads-join (leaf l xs) ys = ap (λ ks. leafKind l ∷ ks) (leads-join xs ys)
-leads-join (group g c xs) ys = ap (λ ks. groupLead g c ∷ ks) (leads-join xs ys)
-
 pub sum-join : (xs ys : Items) → sumOf (join xs ys) ≡ plusOf (sumOf xs) (sumOf ys)
 unfolding sumOf plusOf secondSum
 sum-join xs ys =
-    let e = leads-join xs ys in
     same-sum _ _ _ _ _ _ _ _ _ _ (omega (arith, rows-join xs ys)) (omega (arith, words-join xs ys))
     (ap mixOf (kinds-join xs ys) ∙ mix-append (kinds xs) (kinds ys))
-    (ap firstOf e ∙ first-append (leads xs) (leads ys) (leads-codes xs))
-    (ap secondOf e ∙ second-append (leads xs) (leads ys) (leads-codes xs))
+    (lead-join xs ys) (second-join xs ys)
 
 -- ---- a repeat
 cap-product : (a b : ℕ) → cap (cap a * cap b) ≡ cap (a * b)
@@ -112,23 +105,8 @@ cap-product (suc a) (suc b) =
 cap-times : (f : Items → ℕ) (k : ℕ) (xs : Items) → f (times k xs) ≡ k * f xs → cap (f (times k xs)) ≡ cap (cap k * cap (cap (f xs)))
 cap-times f k xs e = ap cap e ∙ (let c : cap (cap (f xs)) ≡ cap (f xs) = omega arith in rw c (sym (cap-product k (f xs))))
 
--- a list that is told item by item
-module _ (f : Items → List ℕ) (none : f end ≡ []) (joined : (xs ys : Items) → f (join xs ys) ≡ f xs ++ f ys) where
-  told-suc : (k : ℕ) (xs : Items) → f (times (suc k) xs) ≡ f xs ++ f (times k xs)
-  told-suc k xs = ap f (times-suc k xs) ∙ joined xs (times k xs)
-
-  told-none : (k : ℕ) (xs : Items) → f xs ≡ [] → f (times k xs) ≡ []
-  told-none zero xs e = ap f (times-zero xs) ∙ none
-  told-none (suc k) xs e = told-suc k xs ∙ rw e (told-none k xs e)
-
 kinds-suc : (k : ℕ) (xs : Items) → kinds (times (suc k) xs) ≡ kinds xs ++ kinds (times k xs)
-kinds-suc = told-suc kinds (unfold kinds in refl) kinds-join
-
-leads-suc : (k : ℕ) (xs : Items) → leads (times (suc k) xs) ≡ leads xs ++ leads (times k xs)
-leads-suc = told-suc leads (unfold leads in refl) leads-join
-
-leads-none : (k : ℕ) (xs : Items) → leads xs ≡ [] → leads (times k xs) ≡ []
-leads-none = told-none leads (unfold leads in refl) leads-join
+kinds-suc k xs = ap kinds (times-suc k xs) ∙ kinds-join xs (times k xs)
 
 times-one : (xs : Items) → times 1 xs ≡ xs
 times-one xs = times-suc 0 xs ∙ ap (join xs) (times-zero xs) ∙ join-end xs
@@ -137,16 +115,10 @@ mix-times : (k : ℕ) (xs : Items) → mixOf (kinds (times (suc k) xs)) ≡ mixO
 mix-times zero xs = ap (λ z. mixOf (kinds z)) (times-one xs)
 mix-times (suc k) xs = ap mixOf (kinds-suc (suc k) xs) ∙ mix-again (kinds xs) (kinds (times (suc k) xs)) (mix-times k xs)
 
-first-times : (k : ℕ) (xs : Items) → firstOf (leads (times (suc k) xs)) ≡ firstOf (leads xs)
-first-times k xs = ap firstOf (leads-suc k xs) ∙ first-again (leads xs) (leads (times k xs)) (leads-none k xs)
-
-second-times : (k : ℕ) (xs : Items) → secondOf (leads (times (suc k) xs)) ≡ secondPower (suc k) (sumOf xs)
+second-power : (k : ℕ) (xs : Items) → lead (behind (times (suc k) xs)) ≡ secondPower (suc k) (sumOf xs)
 unfolding secondPower sumOf
-second-times zero xs = ap (λ z. secondOf (leads z)) (times-one xs)
-second-times (suc k) xs =
-    ap secondOf (leads-suc (suc k) xs ∙ ap (λ ks. leads xs ++ ks) (leads-suc k xs))
-    ∙ second-again (leads xs) (leads (times k xs)) (leads-codes xs) (leads-none k xs)
-    ∙ sym (ifEq-no (suc (suc k)) 1 _ _ (λ (z : suc (suc k) ≡ 1). omega arith))
+second-power zero xs = ap (λ z. lead (behind z)) (times-one xs)
+second-power (suc k) xs = second-times k xs ∙ sym (ifEq-no (suc (suc k)) 1 _ _ (λ (z : suc (suc k) ≡ 1). omega arith))
 
 sum-power : (k : ℕ) (xs : Items) → sumOf (times (suc k) xs)
     ≡ record {
@@ -159,7 +131,7 @@ sum-power : (k : ℕ) (xs : Items) → sumOf (times (suc k) xs)
 unfolding sumOf
 sum-power k xs =
     same-sum _ _ _ _ _ _ _ _ _ _ (cap-times rows (suc k) xs (rows-times (suc k) xs)) (cap-times words (suc k) xs (words-times (suc k) xs))
-    (mix-times k xs) (first-times k xs) (second-times k xs)
+    (mix-times k xs) (lead-times k xs) (second-power k xs)
 
 pub sum-times : (k : ℕ) (xs : Items) → sumOf (times k xs) ≡ powerOf k (sumOf xs)
 unfolding powerOf

@@ -4,7 +4,7 @@ use Prim.Native.Nat.{ℕ, _+_, _*_, min}
 use mathlib.Core.List.{List, [], _∷_}
 use lib.ListN.{length}
 use Rattle.format.specs.Choice.{pick, ifEq}
-use Rattle.format.specs.Items.{Group, struc, edt, Items, end, leaf, group, CHAR, STRUC, EDT, leafKind, kinds, isString}
+use Rattle.format.specs.Items.{struc, edt, Items, end, leaf, group, CHAR, STRUC, EDT, leafKind, kinds, isString, behind}
 use Rattle.format.specs.Tables.{rows, dataWords}
 use Rattle.scan.specs.declared.summary.Summary.{Summary}
 
@@ -22,40 +22,26 @@ unfolding mixed
 mixOf [] = 0
 mixOf (k ∷ ks) = mixed k (mixOf ks)
 
--- For an EDT, what stands first and second to it: the kind of an element, with a code of its own for a string.
+-- For an EDT, the lead of a list, what it begins with: 0 nothing, a string by a code of its own, else the first item's kind.
 abbrev pub STRING : ℕ
 STRING = 9
 
-unfoldable pub groupLead : Group → Items → ℕ
-unfolding pick isString
-groupLead struc c = pick (isString c) STRING STRUC
-groupLead edt c = EDT
-
-unfoldable pub leads : Items → List ℕ
-unfolding leafKind groupLead
-leads end = []
-leads (leaf l xs) = leafKind l ∷ leads xs
-leads (group g c xs) = groupLead g c ∷ leads xs
-
--- the first two, 0 where there is none
-unfoldable pub firstOf : List ℕ → ℕ
-firstOf [] = 0
-firstOf (k ∷ ks) = k
-
-unfoldable pub secondOf : List ℕ → ℕ
-unfolding firstOf
-secondOf [] = 0
-secondOf (k ∷ ks) = firstOf ks
+unfoldable pub lead : Items → ℕ
+unfolding leafKind pick isString
+lead end = 0
+lead (leaf l xs) = leafKind l
+lead (group struc c xs) = pick (isString c) STRING STRUC
+lead (group edt c xs) = EDT
 
 unfoldable pub sumOf : Items → Summary
-unfolding rows dataWords kinds mixOf leads firstOf secondOf
+unfolding rows dataWords kinds mixOf lead behind
 sumOf xs =
     record {
       rows = cap (rows xs);
       words = cap (length (dataWords xs));
       mix = mixOf (kinds xs);
-      first = firstOf (leads xs);
-      second = secondOf (leads xs);
+      first = lead xs;
+      second = lead (behind xs);
     }
 
 -- no items
