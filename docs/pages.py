@@ -64,6 +64,8 @@ A message that cannot be read whole, or a table that cannot be written whole, is
 
 The place that reading gives counts bytes from the start of the message, the first byte being 0. With 2 to 9 it is the type-byte of the faulty object, otherwise it is 0. Writing gives no place.
 
+With 2 and 3 reading, and with it normalising, also tells how many bytes are missing: from the faulty object's own size, or its fixed length, to the end that it passes; where its size field is not whole, the missing bytes of that field alone, and 1 if none of it is there; where a length or count is cut short, the missing bytes of that integer. 65,536 stands for so many or more. With every other number it is 0. sheetlist does not print it.
+
 ## Which number, if several are due
 
 - **Reading**: 1. Then, from left to right, the first fault met, 2 to 9. Only if there is none: 10. Only then: 11.

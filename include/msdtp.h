@@ -21,10 +21,15 @@
 extern "C" {
 #endif
 
+/*
+ * This header belongs to the archive of the same version. What was compiled
+ * with another must be compiled again: the answers' structures may have grown,
+ * as they did in 0.4.0.
+ */
 #define MSDTP_VERSION_MAJOR 0
-#define MSDTP_VERSION_MINOR 3
+#define MSDTP_VERSION_MINOR 4
 #define MSDTP_VERSION_PATCH 0
-#define MSDTP_VERSION "0.3.0"
+#define MSDTP_VERSION "0.4.0"
 
 /*
  * LENT BUFFERS
@@ -59,6 +64,8 @@ typedef char msdtp_size_t_has_64_bits[sizeof(size_t) == 8 ? 1 : -1];
  * msdtp_read gives 0 to 11. It looks for 1; then from left to right for the
  * first fault of 2 to 9; then for 10; then for 11. At one object the order is
  * 4; 7 for an outermost REPEAT; 5; 2 or 3; 6 or 7; its contents; 8 or 9.
+ * With 2 and 3 it tells how many bytes are missing, and with 2 they may only be
+ * late (see the operations).
  *
  * msdtp_write gives 0 and 12 to 15, looked for in this order.
  * msdtp_normal_length gives 0 and 12 to 14, as writing does.
@@ -200,19 +207,47 @@ static inline const char *msdtp_meaning(uint64_t number)
  *
  * Reads a message into a table. The answer:
  *
- *   number    place                               words
- *   0         0                                   those of the table
- *   2 to 9    offset in the message of the        0
- *             faulty object's type-byte
- *   11        0                                   those needed
- *   1, 10     0                                   0
+ *   number    place                      words                missing
+ *   0         0                          those of the table   0
+ *   2, 3      offset in the message of   0                    1 to 65,536
+ *             the faulty object's
+ *             type-byte
+ *   4 to 9    the same                   0                    0
+ *   11        0                          those needed         0
+ *   1, 10     0                          0                    0
  *
  * With 0, the first `words` words of the table are the table of the message's
  * items, and all words after them are as they were. With any other number the
  * whole table is as it was. MSDTP_TABLE_WORDS are always enough.
+ *
+ * `missing` is how many bytes the faulty object needs past the end that it
+ * passes: with 2 that of the message, with 3 that of the enclosing object. Where
+ * the size field itself passes that end, only the field's own missing bytes are
+ * counted (1 if none of it is there), and what its contents would need is not
+ * guessed. 65,536 stands for so many or more.
+ *
+ *   C2 04 82      2 at 0, missing 3: of four bytes of contents, one is there
+ *   C2            2 at 0, missing 1: nothing of the size field is there
+ *   C2 82 01      2 at 0, missing 1: 82 says that two size bytes follow it, and
+ *                 one is there
+ *   C2 02 E2 01   3 at 2, missing 1: the INT needs two bytes, and the STRUC has
+ *                 one left
+ *
+ * A message that comes in parts. With 2 the tail may be late: wait for
+ * `missing` bytes more, then read the longer message from its first byte. As
+ * long as the message is within MSDTP_BYTE_LIMIT,
+ *   - with 2 and fewer than `missing` bytes more, whatever they are, it is 2 at
+ *     the same place again. Each takes one off `missing`, if that was below
+ *     65,536;
+ *   - with 3 to 9, no bytes that come later change the answer: it is a bad
+ *     message, not a late tail.
+ * Where only the size field's bytes were missing, the next reading tells what
+ * the contents need. Where so many more would bring the message over the limit,
+ * as 65,536 always would, no bytes make it an accepted one. A message that ends
+ * between two objects is whole: whether more are to come, its bytes do not tell.
  */
 struct msdtp_reading {
-    uint64_t number, place, words;
+    uint64_t number, place, words, missing;
 };
 
 struct msdtp_reading msdtp_read(const uint8_t *message, size_t message_len,
@@ -246,13 +281,13 @@ struct msdtp_writing msdtp_normal_length(const uint64_t *table, size_t table_len
  * Reads a message into a table, then writes the normal form of that table.
  *
  *   0         as reading and writing with 0
- *   1 to 11   reading's number, place and words; length is 0; table and output
- *             are as they were
- *   14, 15    writing's number and length, reading's words; place is 0; the
- *             table holds the reading, and the output is as it was
+ *   1 to 11   reading's number, place, words and missing; length is 0; table and
+ *             output are as they were
+ *   14, 15    writing's number and length, reading's words; place and missing
+ *             are 0; the table holds the reading, and the output is as it was
  */
 struct msdtp_normalising {
-    uint64_t number, place, words, length;
+    uint64_t number, place, words, length, missing;
 };
 
 struct msdtp_normalising msdtp_normalise(const uint8_t *message, size_t message_len,
@@ -317,8 +352,13 @@ struct msdtp_normalising msdtp_normalise(const uint8_t *message, size_t message_
  *         printf("%s: %" PRIu64 " bytes\n", msdtp_meaning(w.number), w.length);
  *         if (w.number != MSDTP_ACCEPTED)
  *             return 1;
- *         struct msdtp_reading r = msdtp_read(output, w.length,
+ *         // The STRUC has come, and the INT's type-byte; the rest is late.
+ *         uint64_t come = 9;
+ *         struct msdtp_reading r = msdtp_read(output, come,
  *                                             table, MSDTP_TABLE_WORDS);
+ *         printf("%s: %" PRIu64 " missing\n", msdtp_meaning(r.number), r.missing);
+ *         if (r.number == MSDTP_PAST_INPUT)
+ *             r = msdtp_read(output, come + r.missing, table, MSDTP_TABLE_WORDS);
  *         printf("%s: %" PRIu64 " words\n", msdtp_meaning(r.number), r.words);
  *         if (r.number != MSDTP_ACCEPTED)
  *             return 1;
@@ -329,6 +369,7 @@ struct msdtp_normalising msdtp_normalise(const uint8_t *message, size_t message_
  * It prints:
  *
  *     accepted: 10 bytes
+ *     the message ends in the middle of an object: 1 missing
  *     accepted: 20 words
  *     STRUC
  *       001010011

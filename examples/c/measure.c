@@ -7,7 +7,8 @@
  *   target/measure examples/empty-chest.msg
  *
  * The exit status is 0 for a message that is read, 1 for one that is refused,
- * and 2 for a file that cannot be read.
+ * and 2 for a file that cannot be read. Of a refused one it also says whether
+ * its tail may be late, and then for how many bytes to wait.
  */
 
 #include <inttypes.h>
@@ -22,15 +23,33 @@ static uint8_t message[MESSAGE_BYTES];
 static uint64_t table[MSDTP_TABLE_WORDS];
 static uint8_t output[MSDTP_OUTPUT_BYTES];
 
-/* Prints a refusal and gives the exit status for it. Writing's have no place. */
-static int refused(uint64_t number, uint64_t place)
+/* Prints a refusal. Writing's have no place, and only 2 and 3 have bytes missing. */
+static void print_refused(uint64_t number, uint64_t place, uint64_t missing)
 {
     printf("refused %" PRIu64, number);
     if (number <= MSDTP_TABLE_SHORT) {
         printf(" at %" PRIu64, place);
     }
-    printf(": %s\n", msdtp_meaning(number));
-    return 1;
+    printf(": %s", msdtp_meaning(number));
+    if (missing > 0) {
+        printf("; bytes missing: %" PRIu64 "%s", missing,
+               missing < MSDTP_BYTE_LIMIT ? "" : " or more");
+    }
+    putchar('\n');
+}
+
+/*
+ * Prints how long to wait for the tail of a refused message. Only with number 2
+ * can it be late, and only if all of it may come: a message over the limit is
+ * never read.
+ */
+static void print_wait(uint64_t number, uint64_t missing, size_t length)
+{
+    if (number == MSDTP_PAST_INPUT && length + missing <= MSDTP_BYTE_LIMIT) {
+        printf("wait for %" PRIu64 " more bytes\n", missing);
+    } else {
+        printf("more bytes will not help\n");
+    }
 }
 
 /* Prints so many bits of the table's data, from one of its words on. */
@@ -104,7 +123,9 @@ static int list(size_t length)
     struct msdtp_reading reading = msdtp_read(message, length, table, MSDTP_TABLE_WORDS);
 
     if (reading.number != MSDTP_ACCEPTED) {
-        return refused(reading.number, reading.place);
+        print_refused(reading.number, reading.place, reading.missing);
+        print_wait(reading.number, reading.missing, length);
+        return 1;
     }
     printf("accepted: %" PRIu64 " outermost, %" PRIu64 " rows, %" PRIu64 " words\n",
            table[1], table[0], reading.words);
@@ -121,7 +142,8 @@ static int print_normal_form(size_t length)
     uint64_t at;
 
     if (normal.number != MSDTP_ACCEPTED) {
-        return refused(normal.number, normal.place);
+        print_refused(normal.number, normal.place, normal.missing);
+        return 1;
     }
     printf("normal form, %" PRIu64 " bytes:", normal.length);
     for (at = 0; at < normal.length; at++) {

@@ -44,6 +44,13 @@ fn letter() -> Vec<u8> {
     sized(0xC3, &[vec![0x85, 0x81], date, from, text].concat())
 }
 
+/// Two hundred of a message, without the last byte.
+fn cut_short(message: Vec<u8>) -> Vec<u8> {
+    let mut many = message.repeat(200);
+    many.pop();
+    many
+}
+
 fn small_loads() -> Vec<Load> {
     vec![
         load("nothing", "message", vec![], 1),
@@ -95,6 +102,7 @@ fn large_loads() -> Vec<Load> {
         load("INTs copied", "row", copied, 16_384),
         load("BITS copied", "row", copied_bits, 16_384),
         load("letters", "message", letter().repeat(200), 200),
+        load("letters, the last cut", "message", cut_short(letter()), 200),
     ]
 }
 

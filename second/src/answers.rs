@@ -8,6 +8,8 @@ pub const MOST_ROWS: u64 = 16_384;
 pub const MOST_DATA_WORDS: u64 = 16_384;
 /// Containers stand inside one another at most this deep.
 pub const MOST_NESTED: usize = 16;
+/// More missing bytes than these are told as these.
+pub const MOST_MISSING: usize = 65_536;
 
 pub const ACCEPTED: u64 = 0;
 pub const INPUT_TOO_LONG: u64 = 1;
@@ -27,12 +29,14 @@ pub const FORM_TOO_LONG: u64 = 14;
 pub const OUTPUT_TOO_SHORT: u64 = 15;
 
 /// What reading answers: the words are those used with number 0, those needed
-/// with number 11, and otherwise 0.
+/// with number 11, and otherwise 0. The missing bytes are those wanting with
+/// numbers 2 and 3, and otherwise 0.
 #[derive(Clone, Copy, Debug, PartialEq, Eq)]
 pub struct Reading {
     pub number: u64,
     pub place: u64,
     pub words: u64,
+    pub missing: u64,
 }
 
 /// What writing answers: the length is that written with number 0, that needed
@@ -43,14 +47,15 @@ pub struct Writing {
     pub length: u64,
 }
 
-/// What normalising answers: the first refusal, with reading's place and words
-/// and writing's length.
+/// What normalising answers: the first refusal, with reading's place, words and
+/// missing bytes, and writing's length.
 #[derive(Clone, Copy, Debug, PartialEq, Eq)]
 pub struct Normalising {
     pub number: u64,
     pub place: u64,
     pub words: u64,
     pub length: u64,
+    pub missing: u64,
 }
 
 /// A fault met in a message, at the offset of the faulty object's type-byte.
@@ -58,4 +63,27 @@ pub struct Normalising {
 pub struct Fault {
     pub number: u64,
     pub place: usize,
+    pub missing: u64,
+}
+
+impl Fault {
+    /// A fault that no byte more would mend.
+    pub const fn new(number: u64, place: usize) -> Fault {
+        Fault {
+            number,
+            place,
+            missing: 0,
+        }
+    }
+
+    /// The fault of an object to which so many bytes are wanting.
+    #[cold]
+    pub fn cut(number: u64, place: usize, wanting: usize) -> Fault {
+        let missing = wanting.min(MOST_MISSING) as u64;
+        Fault {
+            number,
+            place,
+            missing,
+        }
+    }
 }

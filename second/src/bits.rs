@@ -37,10 +37,7 @@ pub fn after_marker(data: u64) -> ShortStream {
 /// stand: a length, then exactly the bytes needed for it.
 #[inline(always)]
 pub fn long_stream(bytes: &[u8], at: usize, contents: Range<usize>) -> Result<LongStream, Fault> {
-    let refusal = Fault {
-        number: BAD_BITS,
-        place: at,
-    };
+    let refusal = Fault::new(BAD_BITS, at);
     let within = &bytes[..contents.end];
     let length = heads::count(within, contents.start, refusal)?;
     let left = (contents.end - length.after) as u64;

@@ -2,19 +2,20 @@
 //!
 //! | Request | Answer |
 //! |---|---|
-//! | `read HEX WORDS` | `number N place P words W stray S table WORD..` |
+//! | `read HEX WORDS` | `number N place P words W missing M stray S table WORD..` |
 //! | `write BYTES WORD..` | `number N length L stray S output HEX` |
 //! | `length WORD..` | `number N length L` |
-//! | `normalise HEX WORDS BYTES` | `number N place P words W length L stray S table WORD.. output HEX` |
+//! | `normalise HEX WORDS BYTES` | `number N place P words W length L missing M stray S table WORD.. output HEX` |
 //! | `list HEX` | `text` and the listing, each of its newlines as `\n` |
 //!
 //! HEX is a run of hexadecimal digits, two for each byte, or `-` for no bytes;
 //! all else is decimal. WORDS and BYTES are the room lent. A table is answered
 //! up to the words used, an output up to the length written; where nothing was
-//! to be written there are no words, and `-` for the output. The room is filled
-//! beforehand with numbers that say nothing; `stray` counts the words and bytes
-//! changed that should not have been. Anything else is answered with `error: `
-//! and a help in one line.
+//! to be written there are no words, and `-` for the output. With numbers 2 and
+//! 3, `missing` tells how many bytes are wanting, at most 65,536; otherwise 0.
+//! The room is filled beforehand with numbers that say nothing; `stray` counts
+//! the words and bytes changed that should not have been. Anything else is
+//! answered with `error: ` and a help in one line.
 
 use crate::answers::{ACCEPTED, TABLE_TOO_SHORT};
 use crate::{listing, normal_length, normalise, read, write};
@@ -63,8 +64,8 @@ fn read_answer(message: &[u8], lent: usize) -> String {
     };
     let stray = stray_words(&table[used..], used);
     let head = format!(
-        "number {} place {} words {} stray {stray} table",
-        reading.number, reading.place, reading.words
+        "number {} place {} words {} missing {} stray {stray} table",
+        reading.number, reading.place, reading.words, reading.missing
     );
     with_words(head, &table[..used])
 }
@@ -103,8 +104,8 @@ fn normalise_answer(message: &[u8], lent_words: usize, lent_bytes: usize) -> Str
     };
     let stray = stray_words(&table[read..], read) + stray_bytes(&output[written..], written);
     let head = format!(
-        "number {} place {} words {} length {} stray {stray} table",
-        answer.number, answer.place, answer.words, answer.length
+        "number {} place {} words {} length {} missing {} stray {stray} table",
+        answer.number, answer.place, answer.words, answer.length, answer.missing
     );
     let head = with_words(head, &table[..read]) + " output ";
     with_bytes(head, &output[..written])

@@ -5,10 +5,7 @@ use crate::kinds::{self, Row};
 use crate::{answers::Fault, bits, copy, heads, integers, sizes, stretch};
 
 const SCANNED: &str = "the scan has passed these bytes";
-const NO_FAULT: Fault = Fault {
-    number: 0,
-    place: 0,
-};
+const NO_FAULT: Fault = Fault::new(0, 0);
 
 /// The next row and the next data word to be used.
 #[derive(Clone, Copy)]

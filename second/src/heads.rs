@@ -7,7 +7,7 @@ use crate::{integers, stretch};
 /// What stands where a length or a count is expected, after any padding.
 enum Lead {
     Integer { value: i64, after: usize },
-    CutShort { place: usize },
+    CutShort { place: usize, wanting: usize },
     NoInteger,
 }
 
@@ -27,10 +27,7 @@ pub fn count(contents: &[u8], from: usize, refusal: Fault) -> Result<Count, Faul
             value: value as u64,
             after,
         }),
-        Lead::CutShort { place } => Err(Fault {
-            number: CUT_INNER,
-            place,
-        }),
+        Lead::CutShort { place, wanting } => Err(Fault::cut(CUT_INNER, place, wanting)),
         _ => Err(refusal),
     }
 }
@@ -52,11 +49,12 @@ fn lead(contents: &[u8], from: usize) -> Lead {
 }
 
 fn long_lead(contents: &[u8], at: usize, width: usize) -> Lead {
+    let after = at + 1 + width;
     match integers::signed(contents, at + 1, width) {
-        Some(value) => Lead::Integer {
-            value,
-            after: at + 1 + width,
+        Some(value) => Lead::Integer { value, after },
+        None => Lead::CutShort {
+            place: at,
+            wanting: after - contents.len(),
         },
-        None => Lead::CutShort { place: at },
     }
 }

@@ -29,7 +29,7 @@ mod summary;
 mod write;
 
 pub use answers::{Normalising, Reading, Writing};
-pub use answers::{MOST_BYTES, MOST_DATA_WORDS, MOST_NESTED, MOST_ROWS};
+pub use answers::{MOST_BYTES, MOST_DATA_WORDS, MOST_MISSING, MOST_NESTED, MOST_ROWS};
 pub use listing::{listing, LISTING_BYTES, LISTING_WORDS};
 pub use normal::normalise;
 pub use read::read;

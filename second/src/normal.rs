@@ -13,6 +13,7 @@ pub fn normalise(message: &[u8], table: &mut [u64], output: &mut [u8]) -> Normal
         place: reading.place,
         words: reading.words,
         length: 0,
+        missing: reading.missing,
     };
     if reading.number == ACCEPTED {
         let writing = write(table, output);

@@ -11,32 +11,39 @@ use crate::{fill, scan};
 /// words past those used are never changed.
 pub fn read(message: &[u8], table: &mut [u64]) -> Reading {
     if message.len() > MOST_BYTES {
-        return refused(INPUT_TOO_LONG, 0, 0);
+        return without_fault(INPUT_TOO_LONG, 0);
     }
     let sum = match scan::message(message) {
         Ok(sum) => sum,
-        Err(Fault { number, place }) => return refused(number, place as u64, 0),
+        Err(fault) => return faulty(fault),
     };
     if sum.rows() > MOST_ROWS || sum.data_words > MOST_DATA_WORDS {
-        return refused(TABLE_OVER_LIMITS, 0, 0);
+        return without_fault(TABLE_OVER_LIMITS, 0);
     }
     let words = 4 + 3 * sum.rows() + sum.data_words;
     if words > table.len() as u64 {
-        return refused(TABLE_TOO_SHORT, 0, words);
+        return without_fault(TABLE_TOO_SHORT, words);
     }
     fill_table(message, &sum, &mut table[..words as usize]);
+    without_fault(ACCEPTED, words)
+}
+
+/// An answer that no object's fault has a part in.
+fn without_fault(number: u64, words: u64) -> Reading {
     Reading {
-        number: ACCEPTED,
+        number,
         place: 0,
         words,
+        missing: 0,
     }
 }
 
-fn refused(number: u64, place: u64, words: u64) -> Reading {
+fn faulty(fault: Fault) -> Reading {
     Reading {
-        number,
-        place,
-        words,
+        number: fault.number,
+        place: fault.place as u64,
+        words: 0,
+        missing: fault.missing,
     }
 }
 

@@ -32,7 +32,7 @@ fn run(bytes: &[u8], mut at: usize, inside: usize) -> Result<Summary, Fault> {
             Class::Linteger => long_integer(&mut sum, bytes, at, inside)?,
             Class::Sbitstr => short_bits(&mut sum, bytes, at, inside)?,
             Class::Lbitstr => long_bits(&mut sum, bytes, at, inside)?,
-            Class::Reserved => return Err(fault(RESERVED_TYPE, at)),
+            Class::Reserved => return Err(Fault::new(RESERVED_TYPE, at)),
             _ => container(&mut sum, class, bytes, at, inside)?,
         };
     }
@@ -45,27 +45,22 @@ fn leaves(sum: &mut Summary, element: Element, count: usize) -> usize {
     count
 }
 
-#[inline(always)]
-fn fault(number: u64, place: usize) -> Fault {
-    Fault { number, place }
-}
-
-/// The fault of an object at `at` that needs bytes past the end.
+/// The fault of an object at `at` that needs so many bytes past the end.
 #[cold]
-fn cut(at: usize, inside: usize) -> Fault {
+fn cut(at: usize, inside: usize, wanting: usize) -> Fault {
     let number = if inside == 0 {
         CUT_OUTERMOST
     } else {
         CUT_INNER
     };
-    fault(number, at)
+    Fault::cut(number, at, wanting)
 }
 
 #[inline(always)]
 fn long_integer(sum: &mut Summary, bytes: &[u8], at: usize, inside: usize) -> Result<usize, Fault> {
     let after = at + 1 + integers::data_width(bytes[at]);
     if after > bytes.len() {
-        return Err(cut(at, inside));
+        return Err(cut(at, inside, after - bytes.len()));
     }
     sum.add_leaves(elements::INT, 1);
     Ok(after)
@@ -74,19 +69,20 @@ fn long_integer(sum: &mut Summary, bytes: &[u8], at: usize, inside: usize) -> Re
 #[inline(always)]
 fn short_bits(sum: &mut Summary, bytes: &[u8], at: usize, inside: usize) -> Result<usize, Fault> {
     let width = integers::data_width(bytes[at]);
-    if at + 1 + width > bytes.len() {
-        return Err(cut(at, inside));
+    let after = at + 1 + width;
+    if after > bytes.len() {
+        return Err(cut(at, inside, after - bytes.len()));
     }
     if bytes[at + 1] == 0 {
-        return Err(fault(BAD_BITS, at));
+        return Err(Fault::new(BAD_BITS, at));
     }
     let no_bits = width == 1 && bytes[at + 1] == 1;
     sum.add_bits(if no_bits { 0 } else { 1 });
-    Ok(at + 1 + width)
+    Ok(after)
 }
 
 fn long_bits(sum: &mut Summary, bytes: &[u8], at: usize, inside: usize) -> Result<usize, Fault> {
-    let contents = sizes::contents(bytes, at).ok_or_else(|| cut(at, inside))?;
+    let contents = sizes::contents(bytes, at).map_err(|wanting| cut(at, inside, wanting))?;
     let end = contents.end;
     let stream = bits::long_stream(bytes, at, contents)?;
     sum.add_bits(bits::words_for(stream.bits));
@@ -103,12 +99,12 @@ fn container(
     inside: usize,
 ) -> Result<usize, Fault> {
     if class == Class::Repeat && inside == 0 {
-        return Err(fault(BAD_REPEAT, at));
+        return Err(Fault::new(BAD_REPEAT, at));
     }
     if inside == MOST_NESTED {
-        return Err(fault(TOO_DEEP, at));
+        return Err(Fault::new(TOO_DEEP, at));
     }
-    let contents = sizes::contents(bytes, at).ok_or_else(|| cut(at, inside))?;
+    let contents = sizes::contents(bytes, at).map_err(|wanting| cut(at, inside, wanting))?;
     let end = contents.end;
     match class {
         Class::String => sum.add_container(elements::STRING, contents.len() as u64, 0),
@@ -127,7 +123,7 @@ fn repeat(
     inside: usize,
 ) -> Result<(), Fault> {
     let within = &bytes[..contents.end];
-    let count = heads::count(within, contents.start, fault(BAD_REPEAT, at))?;
+    let count = heads::count(within, contents.start, Fault::new(BAD_REPEAT, at))?;
     let pattern = run(within, count.after, inside + 1)?;
     sum.add_repeated(&pattern, count.value);
     Ok(())
@@ -144,8 +140,8 @@ fn structure(
 ) -> Result<(), Fault> {
     let within = run(&bytes[..contents.end], contents.start, inside + 1)?;
     let element = match class {
-        Class::Edt if !within.begins_edt() => return Err(fault(BAD_EDT, at)),
-        Class::Ustruc if !within.is_uniform() => return Err(fault(SEVERAL_KINDS, at)),
+        Class::Edt if !within.begins_edt() => return Err(Fault::new(BAD_EDT, at)),
+        Class::Ustruc if !within.is_uniform() => return Err(Fault::new(SEVERAL_KINDS, at)),
         Class::Edt => elements::EDT,
         _ => within.as_struc(),
     };

@@ -2,35 +2,42 @@
 
 use std::ops::Range;
 
-/// Where the contents of the object at `at` stand. None if its size-bytes or
-/// its contents go past the end of `bytes`.
+/// Where the contents of the object at `at` stand, or how many bytes are wanting
+/// before the end of `bytes`: of the size field where that is cut short, of the
+/// contents where it is complete.
 #[inline(always)]
-pub fn contents(bytes: &[u8], at: usize) -> Option<Range<usize>> {
-    let first = *bytes.get(at + 1)?;
+pub fn contents(bytes: &[u8], at: usize) -> Result<Range<usize>, usize> {
+    let Some(&first) = bytes.get(at + 1) else {
+        return Err(1);
+    };
     let (start, size) = match first {
         0x00 => (at + 2, 128),
         0x01..=0x7F => (at + 2, first as usize),
         _ => long_size(bytes, at + 2, first & 0x7F)?,
     };
-    if size > bytes.len() - start {
-        return None;
+    let left = bytes.len() - start;
+    if size > left {
+        return Err(size - left);
     }
-    Some(start..start + size)
+    Ok(start..start + size)
 }
 
-/// A size in bytes of its own, and where they end. A size beyond every room
-/// stays beyond it: the sum never wraps round.
-fn long_size(bytes: &[u8], from: usize, low_bits: u8) -> Option<(usize, usize)> {
+/// Where a size in bytes of its own ends, and the size; or how many of its bytes
+/// are wanting. A size beyond every room stays beyond it: the sum never wraps
+/// round.
+fn long_size(bytes: &[u8], from: usize, low_bits: u8) -> Result<(usize, usize), usize> {
     let count = if low_bits == 0 {
         128
     } else {
         low_bits as usize
     };
-    let field = bytes.get(from..from + count)?;
+    let Some(field) = bytes.get(from..from + count) else {
+        return Err(from + count - bytes.len());
+    };
     let size = field.iter().fold(0usize, |size, &byte| {
         size.saturating_mul(256).saturating_add(byte as usize)
     });
-    Some((from + count, size))
+    Ok((from + count, size))
 }
 
 /// How many size-bytes a size takes at the fewest.
@@ -85,10 +92,24 @@ mod tests {
     fn a_size_of_128_bytes_never_wraps_round() {
         let mut bytes = vec![0xC2, 0x80];
         bytes.extend([0xFF; 128]);
-        assert_eq!(contents(&bytes, 0), None);
+        assert_eq!(contents(&bytes, 0), Err(usize::MAX));
         bytes[2..].fill(0);
-        assert_eq!(contents(&bytes, 0), Some(130..130));
+        assert_eq!(contents(&bytes, 0), Ok(130..130));
         bytes[2] = 1;
-        assert_eq!(contents(&bytes, 0), None);
+        assert_eq!(contents(&bytes, 0), Err(usize::MAX));
+        bytes.extend([0; 7]);
+        assert_eq!(contents(&bytes, 0), Err(usize::MAX - 7));
+    }
+
+    #[test]
+    fn what_is_wanting_is_told() {
+        assert_eq!(contents(&[0xC2], 0), Err(1));
+        assert_eq!(contents(&[0xC2, 0x82], 0), Err(2));
+        assert_eq!(contents(&[0xC2, 0x82, 1], 0), Err(1));
+        assert_eq!(contents(&[0xC2, 0x82, 1, 0], 0), Err(256));
+        assert_eq!(contents(&[0xC2, 0x80], 0), Err(128));
+        assert_eq!(contents(&[0xC2, 0x00], 0), Err(128));
+        assert_eq!(contents(&[0x80, 0xC2, 4, 0x82], 1), Err(3));
+        assert_eq!(contents(&[0x80, 0xC2, 1, 0x82], 1), Ok(3..4));
     }
 }

@@ -58,17 +58,36 @@ int output_untouched(uint64_t from)
     return untouched(output, from, sizeof output);
 }
 
-int refused_read(size_t length, size_t room, uint64_t number, uint64_t place, uint64_t words)
+/* Reading and normalising both give this refusal, and every lent byte is as it was. */
+static int refused(size_t length, size_t room, const struct msdtp_reading *expected)
 {
+    static uint8_t sent[BYTES];
     struct msdtp_reading r;
     struct msdtp_normalising n;
 
     refill();
+    memcpy(sent, message, sizeof sent);
     r = msdtp_read(message, length, table, room);
     n = msdtp_normalise(message, length, table, room, output, MSDTP_OUTPUT_BYTES);
-    return is(r.number, number) && r.place == place && r.words == words
-        && n.number == number && n.place == place && n.words == words && n.length == 0
-        && table_untouched(0) && output_untouched(0);
+    return is(r.number, expected->number) && r.place == expected->place
+        && r.words == expected->words && r.missing == expected->missing
+        && n.number == r.number && n.place == r.place && n.words == r.words
+        && n.missing == r.missing && n.length == 0
+        && table_untouched(0) && output_untouched(0) && memcmp(sent, message, sizeof sent) == 0;
+}
+
+int refused_read(size_t length, size_t room, uint64_t number, uint64_t place, uint64_t words)
+{
+    const struct msdtp_reading expected = { number, place, words, 0 };
+
+    return refused(length, room, &expected);
+}
+
+int cut_read(size_t length, uint64_t number, uint64_t place, uint64_t missing)
+{
+    const struct msdtp_reading expected = { number, place, 0, missing };
+
+    return refused(length, MSDTP_TABLE_WORDS, &expected);
 }
 
 int accepted_read(size_t length, size_t room, uint64_t words)
@@ -77,7 +96,7 @@ int accepted_read(size_t length, size_t room, uint64_t words)
 
     refill();
     r = msdtp_read(message, length, table, room);
-    return is(r.number, MSDTP_ACCEPTED) && r.place == 0 && r.words == words
+    return is(r.number, MSDTP_ACCEPTED) && r.place == 0 && r.words == words && r.missing == 0
         && table_untouched(words);
 }
 

@@ -29,8 +29,13 @@ void refill(void);
 int table_untouched(uint64_t from);
 int output_untouched(uint64_t from);
 
-/* Reading and normalising the message are both refused and touch nothing. */
+/*
+ * Reading and normalising the message are both refused and touch nothing, the
+ * message neither. With refused_read no bytes are missing. With cut_read, which
+ * is for 2 and 3, so many are, and the table lent is always long enough.
+ */
 int refused_read(size_t length, size_t room, uint64_t number, uint64_t place, uint64_t words);
+int cut_read(size_t length, uint64_t number, uint64_t place, uint64_t missing);
 
 /* The message is read with so many words, and nothing past them is touched. */
 int accepted_read(size_t length, size_t room, uint64_t words);
@@ -44,8 +49,9 @@ int accepted_write(size_t words, size_t room, uint64_t length);
 /* msdtp_meaning as another translation unit has it. */
 const char *meaning_elsewhere(uint64_t number);
 
-/* The checks of tables.c and of limits.c. */
+/* The checks of tables.c, of missing.c and of limits.c. */
 void check_tables(void);
+void check_missing(void);
 void check_limits(void);
 
 #endif

@@ -66,13 +66,14 @@ static void check_all_kinds(void)
     refill();
     n = msdtp_normalise(message + 1, length, table, USED, output + 1, length);
     check("all kinds: normalised, at odd addresses", n.number == MSDTP_ACCEPTED && n.place == 0
-          && n.words == USED && n.length == length
+          && n.words == USED && n.length == length && n.missing == 0
           && memcmp(table, words_of_all, sizeof words_of_all) == 0 && table_untouched(USED)
           && memcmp(output + 1, bytes_of_all, length) == 0 && output_untouched(length + 1));
     refill();
     n = msdtp_normalise(message + 1, length, table, USED, output, length - 1);
     check("all kinds: normalised, output too short", n.number == MSDTP_OUTPUT_SHORT
-          && n.place == 0 && n.words == USED && n.length == length && output_untouched(0)
+          && n.place == 0 && n.words == USED && n.length == length && n.missing == 0
+          && output_untouched(0)
           && memcmp(table, words_of_all, sizeof words_of_all) == 0 && table_untouched(USED));
 }
 

@@ -6,9 +6,10 @@
 //!
 //! Without a file it takes `examples/empty-chest.msg` of the repository. The
 //! exit status is 0 for a message that is read, 1 for one that is refused, and
-//! 2 for a file that cannot be opened.
+//! 2 for a file that cannot be opened. Of a refused one it also says whether its
+//! tail may be late, and then for how many bytes to wait.
 
-use msdtp::{read, rows, Row, Rows, TABLE_WORDS};
+use msdtp::{numbers::PAST_INPUT, read, rows, Refused, Row, Rows, BYTE_LIMIT, TABLE_WORDS};
 use std::path::{Path, PathBuf};
 use std::process::ExitCode;
 
@@ -43,8 +44,20 @@ fn print_message(message: &[u8]) -> ExitCode {
         }
         Err(refused) => {
             println!("{refused}");
+            print_wait(refused, message.len());
             ExitCode::FAILURE
         }
+    }
+}
+
+/// Prints how long to wait for the tail of a refused message of so many bytes.
+/// Only with number 2 can it be late, and only if all of it may come: a message
+/// over the limit is never read.
+fn print_wait(refused: Refused, length: usize) {
+    if refused.number == PAST_INPUT && length + refused.missing <= BYTE_LIMIT {
+        println!("wait for {} more bytes", refused.missing);
+    } else {
+        println!("more bytes will not help");
     }
 }
 

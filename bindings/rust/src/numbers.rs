@@ -27,8 +27,10 @@ pub const ACCEPTED: u64 = 0;
 /// The message is over [`BYTE_LIMIT`](crate::BYTE_LIMIT).
 pub const TOO_LONG: u64 = 1;
 /// An outermost object passes the message's end.
+/// [`missing`](crate::Refused::missing) counts the bytes.
 pub const PAST_INPUT: u64 = 2;
 /// An inner object passes the enclosing one's end.
+/// [`missing`](crate::Refused::missing) counts the bytes.
 pub const PAST_ENCLOSING: u64 = 3;
 /// A reserved or unassigned type-byte.
 pub const UNASSIGNED: u64 = 4;

@@ -35,8 +35,55 @@ pub struct Normalised {
 /// assert_eq!(read.words, 16);
 ///
 /// let refused = msdtp::read(&[0xC2, 0x02, 0xE2, 0x01], &mut table).unwrap_err();
-/// assert_eq!((refused.number, refused.place), (3, 2));
+/// assert_eq!((refused.number, refused.place, refused.missing), (3, 2, 1));
 /// # Ok::<(), msdtp::Refused>(())
+/// ```
+///
+/// # A message that comes in parts
+///
+/// With number 2 the tail may be late: wait for as many bytes more as the
+/// refusal calls [`missing`](Refused::missing), then read the longer message.
+/// Where only the size field's bytes were missing, the next reading tells what
+/// the contents need.
+///
+/// As long as the message is within [`BYTE_LIMIT`](crate::BYTE_LIMIT):
+///
+/// - With 2 and fewer than `missing` bytes more, whatever they are, it is 2 at
+///   the same place again. Each takes one off `missing`, if that was below
+///   65,536.
+/// - With 3 to 9, no bytes that come later change the answer: it is a bad
+///   message, not a late tail.
+///
+/// Where so many more would bring the message over the limit, as 65,536 always
+/// would, no bytes make it an accepted one.
+///
+/// A message that ends between two objects is whole: whether more are to come,
+/// its bytes do not tell.
+///
+/// ```
+/// use msdtp::{numbers::PAST_INPUT, read, Refused};
+///
+/// // A STRUC of the string "HELLO" and of 4096, as a line delivers it.
+/// let parts: [&[u8]; 5] = [b"\xC2", b"\x0A\xC5", b"\x05HEL", b"LO\xE2", b"\x10\x00"];
+/// let mut table = [0; 64];
+/// let (mut message, mut wanted) = (Vec::new(), 1);
+/// let (mut waits, mut words) = (Vec::new(), 0);
+/// for part in parts {
+///     message.extend_from_slice(part);
+///     if message.len() < wanted {
+///         continue;
+///     }
+///     match read(&message, &mut table) {
+///         Err(late) if late.number == PAST_INPUT => {
+///             waits.push(late.missing);
+///             wanted = message.len() + late.missing;
+///         }
+///         whole => words = whole?.words,
+///     }
+/// }
+/// // Read three times: the size field was missing, then nine bytes, then none.
+/// assert_eq!((&waits[..], words), (&[1, 9][..], 28));
+/// # Ok::<(), Refused>(())
 /// ```
 pub fn read(message: &[u8], table: &mut [u64]) -> Result<Read, Refused> {
     let answer = library::read(message, table);
@@ -48,6 +95,7 @@ pub fn read(message: &[u8], table: &mut [u64]) -> Result<Read, Refused> {
             place: answer.place as usize,
             needed: words,
             words: 0,
+            missing: answer.missing as usize,
         }),
     }
 }
@@ -99,6 +147,7 @@ fn written(answer: Writing) -> Result<usize, Refused> {
             place: 0,
             needed: length,
             words: 0,
+            missing: 0,
         }),
     }
 }
@@ -107,9 +156,10 @@ fn written(answer: Writing) -> Result<usize, Refused> {
 /// output.
 ///
 /// Two messages have the same normal form exactly when they say the same items
-/// in the same order. If reading refuses (1 to 11), table and output are as
-/// they were. If writing refuses (14 or 15), the table holds the reading, in as
-/// many words as the refusal tells, and the output is as it was.
+/// in the same order. If reading refuses (1 to 11), the refusal is that of
+/// [`read`], and table and output are as they were. If writing refuses (14 or
+/// 15), the table holds the reading, in as many words as the refusal tells, and
+/// the output is as it was.
 ///
 /// ```
 /// use msdtp::{normalise, OUTPUT_BYTES, TABLE_WORDS};
@@ -142,5 +192,6 @@ pub fn normalise(
         place: answer.place as usize,
         needed,
         words: held,
+        missing: answer.missing as usize,
     })
 }

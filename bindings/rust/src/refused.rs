@@ -1,6 +1,7 @@
 //! A refusal, and what its number says.
 
-use crate::numbers::{OUTPUT_SHORT, TABLE_SHORT};
+use crate::numbers::{OUTPUT_SHORT, PAST_ENCLOSING, PAST_INPUT, TABLE_SHORT};
+use crate::BYTE_LIMIT;
 use std::error::Error;
 use std::fmt::{Display, Formatter, Result};
 
@@ -8,10 +9,10 @@ use std::fmt::{Display, Formatter, Result};
 ///
 /// ```
 /// let refused = msdtp::read(&[0xC2, 0x04, 0x82], &mut []).unwrap_err();
-/// assert_eq!((refused.number, refused.place), (2, 0));
+/// assert_eq!((refused.number, refused.place, refused.missing), (2, 0, 3));
 /// assert_eq!(
 ///     refused.to_string(),
-///     "refused 2 at 0: the message ends in the middle of an object"
+///     "refused 2 at 0: the message ends in the middle of an object; bytes missing: 3"
 /// );
 ///
 /// let refused = msdtp::read(&[0x80], &mut []).unwrap_err();
@@ -31,6 +32,26 @@ pub struct Refused {
     /// The table words that hold the reading, if normalising is refused with 14
     /// or 15; otherwise 0.
     pub words: usize,
+    /// With 2 and 3, how many bytes the faulty object needs past the end that it
+    /// passes: with 2 that of the message, with 3 that of the enclosing object.
+    /// Otherwise 0.
+    ///
+    /// Where the size field itself passes that end, only the field's own missing
+    /// bytes are counted: 1 if none of it is there. What its contents would need
+    /// is not guessed. 65,536 stands for so many or more.
+    ///
+    /// ```
+    /// let missing = |message: &[u8]| msdtp::read(message, &mut []).unwrap_err().missing;
+    /// // A STRUC of size 4, of whose contents one byte is there.
+    /// assert_eq!(missing(&[0xC2, 0x04, 0x82]), 3);
+    /// // A STRUC without any of its size field, and one whose size field goes on
+    /// // for two bytes, of which one is there.
+    /// assert_eq!(missing(&[0xC2]), 1);
+    /// assert_eq!(missing(&[0xC2, 0x82, 0x01]), 1);
+    /// // Refused 3: an INT of two bytes, where the STRUC around it has one left.
+    /// assert_eq!(missing(&[0xC2, 0x02, 0xE2, 0x01]), 1);
+    /// ```
+    pub missing: usize,
 }
 
 impl Refused {
@@ -62,8 +83,8 @@ impl Refused {
     }
 }
 
-/// The number, reading's place, the meaning, and the room needed if there is
-/// some.
+/// The number, reading's place, the meaning, and the room needed or the bytes
+/// missing if there are some.
 impl Display for Refused {
     fn fmt(&self, to: &mut Formatter<'_>) -> Result {
         write!(to, "refused {}", self.number)?;
@@ -74,6 +95,14 @@ impl Display for Refused {
         match self.number {
             TABLE_SHORT => write!(to, "; words needed: {}", self.needed),
             OUTPUT_SHORT => write!(to, "; bytes needed: {}", self.needed),
+            PAST_INPUT | PAST_ENCLOSING => {
+                let more = if self.missing < BYTE_LIMIT {
+                    ""
+                } else {
+                    " or more"
+                };
+                write!(to, "; bytes missing: {}{more}", self.missing)
+            }
             _ => Ok(()),
         }
     }

@@ -4,8 +4,8 @@
 //! A slice is passed as its pointer and its length. An empty one may have any
 //! pointer, null too. Lent buffers may not overlap.
 
-/// Reading's answer: 0 or a refusal's number, its place, and the words used or
-/// needed.
+/// Reading's answer: 0 or a refusal's number, its place, the words used or
+/// needed, and the bytes missing.
 #[derive(Clone, Copy, Debug, PartialEq, Eq)]
 #[repr(C)]
 pub struct Reading {
@@ -15,6 +15,9 @@ pub struct Reading {
     pub place: u64,
     /// The words used, or with 11 those needed.
     pub words: u64,
+    /// The bytes missing with 2 and 3, otherwise 0. What is counted is told at
+    /// [`Refused::missing`](crate::Refused::missing).
+    pub missing: u64,
 }
 
 /// Writing's answer: 0 or a refusal's number, and the bytes written or needed.
@@ -27,7 +30,8 @@ pub struct Writing {
     pub length: u64,
 }
 
-/// Normalising's answer: reading's, and then writing's.
+/// Normalising's answer: reading's number, place, words and bytes missing, then
+/// writing's number and length.
 #[derive(Clone, Copy, Debug, PartialEq, Eq)]
 #[repr(C)]
 pub struct Normalising {
@@ -39,6 +43,9 @@ pub struct Normalising {
     pub words: u64,
     /// The bytes written, or with 15 those needed.
     pub length: u64,
+    /// The bytes missing with 2 and 3, otherwise 0. What is counted is told at
+    /// [`Refused::missing`](crate::Refused::missing).
+    pub missing: u64,
 }
 
 extern "C" {

@@ -1,7 +1,10 @@
-//! The crate and the C header agree: constants, version, words.
+//! The crate and the C header agree: constants, version, words, the fields of
+//! the answers.
 
+use msdtp::sys::{Normalising, Reading, Writing};
 use msdtp::{kinds, numbers, Refused};
 use std::collections::BTreeMap;
+use std::mem::{offset_of, size_of};
 
 /// The header's text.
 fn header() -> String {
@@ -114,4 +117,44 @@ fn the_words_are_those_of_the_header() {
     assert_eq!(words(&header, "case 0"), ["accepted"]);
     assert_eq!(words(&header, "default"), [refused(16).meaning()]);
     assert!(words(&header, "case 16").is_empty());
+}
+
+/// The fields of a structure of the header, by name. All have eight bytes.
+fn fields<'h>(header: &'h str, name: &str) -> Vec<&'h str> {
+    let before = format!("struct {name} {{\n    uint64_t ");
+    let (_, rest) = header.split_once(&before).expect(name);
+    let (fields, _) = rest.split_once(";\n};").expect(name);
+    fields.split(", ").collect()
+}
+
+/// The fields of a structure of `sys` stand one after another in this order, and
+/// there are no others.
+fn in_order(fields: &[(&'static str, usize)], size: usize) -> Vec<&'static str> {
+    let offsets = fields.iter().map(|(_, offset)| *offset);
+    assert!(offsets.eq((0..size).step_by(8)), "{fields:?}");
+    fields.iter().map(|(name, _)| *name).collect()
+}
+
+/// The fields of a structure with their offsets, as [`in_order`] has them.
+macro_rules! fields_of {
+    ($of:ty: $($field:ident),*) => {
+        in_order(&[$((stringify!($field), offset_of!($of, $field))),*], size_of::<$of>())
+    };
+}
+
+#[test]
+fn the_fields_are_those_of_the_header() {
+    let header = header();
+    assert_eq!(
+        fields(&header, "msdtp_reading"),
+        fields_of!(Reading: number, place, words, missing)
+    );
+    assert_eq!(
+        fields(&header, "msdtp_writing"),
+        fields_of!(Writing: number, length)
+    );
+    assert_eq!(
+        fields(&header, "msdtp_normalising"),
+        fields_of!(Normalising: number, place, words, length, missing)
+    );
 }

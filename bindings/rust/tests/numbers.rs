@@ -78,10 +78,13 @@ fn reading_gives_1_to_11() {
         let refused = refused_reading(&message, TABLE_WORDS);
         assert_eq!((refused.number, refused.place), (number, place));
         assert_eq!((refused.needed, refused.words), (0, 0));
+        let one_byte = [2, 3].contains(&number);
+        assert_eq!(refused.missing, usize::from(one_byte));
     }
     let refused = refused_reading(&[0x80], 6);
     assert_eq!((refused.number, refused.place), (11, 0));
     assert_eq!((refused.needed, refused.words), (7, 0));
+    assert_eq!(refused.missing, 0);
 }
 
 #[test]
@@ -97,6 +100,7 @@ fn writing_gives_12_to_15() {
         let refused = refused_writing(&table, bytes);
         assert_eq!((refused.number, refused.needed), (number, needed));
         assert_eq!((refused.place, refused.words), (0, 0));
+        assert_eq!(refused.missing, 0);
         let length = normal_length(&table);
         match number {
             15 => assert_eq!(length, Ok(needed)),
@@ -114,6 +118,7 @@ fn normalising_gives_14_and_15_and_the_reading() {
     let refused = normalise(&long, &mut table, &mut output[..9]).unwrap_err();
     assert_eq!((refused.number, refused.needed), (15, 32_768));
     assert_eq!((refused.place, refused.words), (0, words));
+    assert_eq!(refused.missing, 0);
     assert_eq!(rows(&table[..words]).count(), 16_384);
 
     // 9,000 times -2^63, in a repeat.
@@ -121,7 +126,7 @@ fn normalising_gives_14_and_15_and_the_reading() {
     let repeat = [&[0xC2, 0x0E, 0xC4, 0x0C, 0xE2, 0x23, 0x28], &least[..]].concat();
     let refused = normalise(&repeat, &mut table, &mut output).unwrap_err();
     assert_eq!((refused.number, refused.needed), (14, 0));
-    assert_eq!(refused.words, 4 + 3 * 9_001);
+    assert_eq!((refused.missing, refused.words), (0, 4 + 3 * 9_001));
     assert!(output.iter().all(|&byte| byte == 7));
 }
 

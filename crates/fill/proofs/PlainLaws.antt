@@ -151,7 +151,7 @@ plain-tags = 0 ∷ 1 ∷ 2 ∷ 3 ∷ 4 ∷ 5 ∷ []
 
 pub head-apt : (s : List ℕ) (h : Head) (m : O.Head) → HeadIs s h m → Apt s h
 unfolding Apt
-head-apt s (Stop n p) m e = tt
+head-apt s (Stop f) m e = tt
 head-apt s Gap m e = tt
 head-apt s (Row k v u) m e = tt
 head-apt s (Short n w u) m e = e .2 .few
@@ -170,8 +170,8 @@ module _ (s : List ℕ) (inside : ℕ → ℕ → Outcome) (xs : Items) (u : ℕ
 
   plain-shown : (h : Head) (m : O.Head) → OneOf plain-tags (tagOf the-type h) → HeadIs s h m → object inside m ≡ got xs u → Shown s h xs u
   unfolding object plainWords plainRows plainPlaced
-  plain-shown (Stop n p) m t e f =
-      let g : bad (record { number = n; place = p }) ≡ got xs u = sym (ap (object inside) e) ∙ f in
+  plain-shown (Stop x) m t e f =
+      let g : bad x ≡ got xs u = sym (ap (object inside) e) ∙ f in
       let z : _≡_ {A = ℕ} 0 1 = cc in
       absurd (omega arith)
   plain-shown Gap m t e f = given Gap m end 0 e f (shown-gap s)
@@ -194,7 +194,7 @@ object-shown d b s xs u f h t e = plain-shown s (λ i n. reads (suc d) (O.conten
 pub idle : (s : List ℕ) (h : Head) → OneOf (0 ∷ 1 ∷ 6 ∷ []) (tagOf the-type h)
     → (plainPlaced h ≡ placedAs 0 0 0 0) × ((base : ℕ) → plainRows s base h ≡ []) × (plainWords s h ≡ [])
 unfolding plainPlaced plainRows plainWords
-idle s (Stop n p) t = (refl, λ base. refl, refl)
+idle s (Stop f) t = (refl, λ base. refl, refl)
 idle s Gap t = (refl, λ base. refl, refl)
 idle s (Row k v u) t = absurd (miss (0 ∷ 1 ∷ 6 ∷ []) 2 tt t)
 idle s (Short n w u) t = absurd (miss (0 ∷ 1 ∷ 6 ∷ []) 3 tt t)

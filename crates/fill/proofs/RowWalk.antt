@@ -27,7 +27,8 @@ use Rattle.fill.specs.Walks.{Fits, RunFits, ObjectFits, Laid, RunFilled,
 use Rattle.fill.specs.Stretch.{Stretched}
 use Rattle.fill.proofs.Over.{over-none, over-length, part-length, grown, lent}
 use Rattle.fill.proofs.RowLaws.{count-rows}
-use Rattle.fill.proofs.Turns.{onto-onto, Passed, passed-none, passed-all, Ahead, ahead}
+use Rattle.format.proofs.Growing.{onto-onto}
+use Rattle.fill.proofs.Turns.{Passed, passed-none, passed-all, Ahead, ahead}
 use Rattle.fill.proofs.PlainLaws.{Shown, plain-tags, object-shown}
 use Rattle.fill.proofs.ContainerLaws.{Opened, opened, closed-none, fits-inside, closable, closed-laid, closed-past}
 

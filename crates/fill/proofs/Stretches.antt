@@ -27,7 +27,8 @@ use Rattle.fill.specs.declared.stretch.Stretch.{Stretch}
 use Rattle.fill.specs.Stretch.{Ranged, LongOf, Bare, Stretched}
 use Rattle.fill.proofs.Over.{over-self, over-length, grown}
 use Rattle.fill.proofs.PlainLaws.{gap-head}
-use Rattle.fill.proofs.Turns.{onto-none, onto-onto, turn-at}
+use Rattle.format.proofs.Growing.{onto-none, onto-onto}
+use Rattle.fill.proofs.Turns.{turn-at}
 
 leaf-rows : (d k v : ℕ) (l : Leaf) → IsRow l k v → rowWords d (one l) ≡ k ∷ 0 ∷ v ∷ []
 unfolding rowWords

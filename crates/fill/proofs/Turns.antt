@@ -6,23 +6,13 @@ use mathlib.Core.Path.{_≡_, refl, sym, ap, _∙_, fun-ext}
 use mathlib.Core.List.{List}
 use lib.ListN.{length, take, drop, getD, length-drop, drop-of-length-le}
 use lib.Seq.{drop-cons, drop-drop}
-use Rattle.format.specs.Refusals.{further}
 use Rattle.format.specs.Items.{Items, end, join}
 use Rattle.format.specs.Messages.{Outcome, refused, says, Object, bad, got, onto, next, reads}
-use Rattle.format.proofs.Counts.{join-end, join-assoc}
+use Rattle.format.proofs.Counts.{join-end}
 use Rattle.format.proofs.Parts.{rest-part}
 use Rattle.format.proofs.Steps.{reads-nil, reads-cons, objectAt}
+use Rattle.format.proofs.Growing.{onto-none, onto-onto}
 use Rattle.fill.proofs.WithinLaws.{got-within}
-
-pub onto-none : (o : Outcome) → o ≡ onto end 0 o
-unfolding onto join further
-onto-none (refused f) = ap refused (ap (λ p. record { number = f .number; place = p }) (omega arith))
-onto-none (says xs) = refl
-
-pub onto-onto : (xs ys : Items) (i n : ℕ) (o : Outcome) → onto xs i (onto ys n o) ≡ onto (join xs ys) (i + n) o
-unfolding onto further
-onto-onto xs ys i n (refused f) = ap refused (ap (λ p. record { number = f .number; place = p }) (omega arith))
-onto-onto xs ys i n (says zs) = ap says (sym (join-assoc xs ys zs))
 
 pub onto-said : (xs : Items) (i : ℕ) (o : Outcome) (all : Items) → onto xs i o ≡ says all → (zs : Items) × (all ≡ join xs zs)
 unfolding onto

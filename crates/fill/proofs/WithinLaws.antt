@@ -8,7 +8,8 @@ use lib.Seq.{length-take-le}
 use Rattle.format.specs.declared.Class.{Class}
 use Rattle.format.specs.declared.Class.the-variants.{Char7, Sinteger, Linteger, Sbitstr, Lbitstr, String, Struc, Ustruc, Edt, Repeat, Xtra, Bool, Empty, Padding, Reserved}
 use Rattle.format.specs.Classes.{classOf}
-use Rattle.format.specs.Refusals.{Fault, bad-bits, bad-repeat}
+use Rattle.format.specs.declared.fault.Fault.{Fault}
+use Rattle.format.specs.Refusals.{bad-bits, bad-repeat}
 use Rattle.format.specs.Bits.{bytesFor}
 use Rattle.format.specs.Items.{Items, uniform, edtRule}
 use Rattle.format.specs.Objects.{Wrap, as-struc, as-ustruc, as-edt, repeated, Head, stop, gives, opens, following, lintegerHead, sbitstrHead, lbitstr, lbitstrHead, stringHead, groupHead, repeatHead, headBy, headOf, contents}

@@ -29,7 +29,8 @@ use Rattle.fill.specs.Shorts.{insideOf, groupOf}
 use Rattle.fill.specs.Stretch.{Bare}
 use Rattle.fill.specs.Walks.{RunRoom, ObjectRoom, Kept, RunStored, ObjectStored}
 use Rattle.fill.proofs.Over.{none-in, over-none, over-length, part-length, grown, lent}
-use Rattle.fill.proofs.Turns.{onto-onto, Passed, passed-none, passed-all, Ahead, ahead}
+use Rattle.format.proofs.Growing.{onto-onto}
+use Rattle.fill.proofs.Turns.{Passed, passed-none, passed-all, Ahead, ahead}
 use Rattle.fill.proofs.PlainLaws.{chars-words, Shown, plain-tags, object-shown}
 use Rattle.fill.proofs.ContainerLaws.{Opened, opened, at-least, closed-none, closed-words, closed-kept}
 use Rattle.fill.proofs.ShortLaws.{text-string, Inside, short-inside}

@@ -13,7 +13,7 @@ use Rattle.fill.specs.declared.plain.Stored.{Stored}
 -- a bit string or a text lies within the bytes s
 unfoldable pub Apt : List ℕ → Head → Type 0
 unfolding bytesFor
-Apt s (Stop n p) = Unit {0}
+Apt s (Stop f) = Unit {0}
 Apt s Gap = Unit {0}
 Apt s (Row k v u) = Unit {0}
 Apt s (Short n w u) = n ≤ 63
@@ -29,7 +29,7 @@ charRows (b ∷ s) = 3 ∷ 0 ∷ b % 128 ∷ charRows s
 -- the rows of an object, where `base` data words come before
 unfoldable pub plainRows : List ℕ → ℕ → Head → List ℕ
 unfolding charRows
-plainRows s base (Stop n p) = []
+plainRows s base (Stop f) = []
 plainRows s base Gap = []
 plainRows s base (Row k v u) = k ∷ 0 ∷ v ∷ []
 plainRows s base (Short n w u) = 2 ∷ n ∷ base ∷ []
@@ -40,7 +40,7 @@ plainRows s base (Open w a n) = []
 -- its data words
 unfoldable pub plainWords : List ℕ → Head → List ℕ
 unfolding packed wordsFor
-plainWords s (Stop n p) = []
+plainWords s (Stop f) = []
 plainWords s Gap = []
 plainWords s (Row k v u) = []
 plainWords s (Short n w u) = take (wordsFor n) (w ∷ [])
@@ -53,7 +53,7 @@ placedAs r c w u = record { rows = r; count = c; words = w; past = u }
 
 unfoldable pub plainPlaced : Head → Placed
 unfolding wordsFor
-plainPlaced (Stop n p) = placedAs 0 0 0 0
+plainPlaced (Stop f) = placedAs 0 0 0 0
 plainPlaced Gap = placedAs 0 0 0 0
 plainPlaced (Row k v u) = placedAs 1 1 0 u
 plainPlaced (Short n w u) = placedAs 1 1 (wordsFor n) u

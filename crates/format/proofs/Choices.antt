@@ -1,5 +1,5 @@
 -- The laws of choosing by a test. Assumes nothing.
-use mathlib.Core.Path.{_≡_, refl, sym}
+use mathlib.Core.Path.{_≡_, refl, sym, subst}
 use Prim.Native.Nat.{ℕ, zero, suc, _≤_, _<_}
 use native.Mathlib.Decide.{decLe}
 use native.Mathlib.Omega.{arith}
@@ -72,6 +72,12 @@ split-eq a b f g =
 -- a fact of either outcome is a fact of the choice
 pub byLt {ℓ κ} : {X : Type ℓ} (P : X → Type κ) (a b : ℕ) {x y : X} → (a < b → P x) → (b ≤ a → P y) → P (ifLt a b x y)
 byLt P a b f g = split a b (λ h. rw ifLt-yes (f h)) (λ h. rw ifLt-no (g h))
+
+-- the same of two choices by one test
+pub byLt₂ {ℓ κ} : {X Y : Type ℓ} (P : X → Y → Type κ) (a b : ℕ) {x y : X} {u v : Y} → (a < b → P x u) → (b ≤ a → P y v) → P (ifLt a b x y) (ifLt a b u v)
+byLt₂ P a b {x} {y} {u} {v} f g =
+    split a b (λ h. subst (P (ifLt a b x y)) (sym (ifLt-yes a b u v h)) (subst (λ z. P z u) (sym (ifLt-yes a b x y h)) (f h)))
+    (λ h. subst (P (ifLt a b x y)) (sym (ifLt-no a b u v h)) (subst (λ z. P z v) (sym (ifLt-no a b x y h)) (g h)))
 
 pub byEq {ℓ κ} : {X : Type ℓ} (P : X → Type κ) (a b : ℕ) {x y : X} → (a ≡ b → P x) → (a ≢ b → P y) → P (ifEq a b x y)
 byEq P a b f g = split-eq a b (λ h. rw ifEq-yes (f h)) (λ h. rw ifEq-no (g h))

@@ -2,7 +2,7 @@
 use mathlib.Core.Path.{refl}
 use Rattle.format.specs.Messages.{outcome}
 use Rattle.format.specs.Answers.{reading, normalising}
-use Rattle.format.specs.Examples.{examples, hugeRepeat, strucFirst, Holds, All}
+use Rattle.format.specs.Examples.{examples, hugeRepeat, strucFirst, cuts, Holds, All}
 
 pub examples-hold : All examples
 unfolding examples outcome reading normalising
@@ -16,3 +16,7 @@ huge-repeat-holds = (refl, refl, refl)
 pub struc-first-holds : Holds strucFirst
 unfolding strucFirst outcome reading
 struc-first-holds = λ t. refl
+
+pub cuts-hold : All cuts
+unfolding cuts outcome reading
+cuts-hold = (λ t. refl, (λ t. refl, (λ t. refl, (λ t. refl, (λ t. refl, (λ t. refl, (λ t. refl, (λ t. refl, (λ t. refl, tt)))))))))

@@ -7,7 +7,8 @@ use lib.ListN.{length, take}
 use lib.Seq.{length-take-le}
 use lib.IntN.{pos, negsuc}
 use Rattle.format.specs.Numbers.{Bytes}
-use Rattle.format.specs.Refusals.{Fault, depthLimit}
+use Rattle.format.specs.declared.fault.Fault.{Fault}
+use Rattle.format.specs.Refusals.{depthLimit}
 use Rattle.format.specs.declared.Class.{Class}
 use Rattle.format.specs.declared.Class.the-variants.{Char7, Sinteger, Linteger, Sbitstr, Lbitstr, String, Struc, Ustruc, Edt, Repeat, Xtra, Bool, Empty, Padding, Reserved}
 use Rattle.format.specs.Classes.{classOf}
@@ -19,16 +20,16 @@ use Rattle.format.proofs.Sizes.{SizeFits, size-fits}
 use Rattle.format.proofs.TypeBytes.{InClass, in-class, following-range}
 use Rattle.format.proofs.Shortest.{small-shortest, integer-shortest}
 
--- ---- a leading integer lies within the bytes it was read from, and the normal one is not longer; one that is cut short begins there
+-- ---- a leading integer lies within the bytes it was read from, and the normal one is not longer; one that is cut short wants some
 abbrev pub Led : List ℕ → Leading → Type 0
 Led s absent = Unit {0}
-Led s (short p) = p < length s
+Led s (short p k) = 0 < k
 Led s (found z u) = (u ≤ length s) × (Bytes s → length (normalInt z) ≤ u)
 
 led-later : (b : ℕ) (s : List ℕ) (x : Leading) → Led s x → Led (b ∷ s) (later x)
 unfolding later
 led-later b s absent g = tt
-led-later b s (short p) g = omega arith
+led-later b s (short p k) g = g
 led-later b s (found z u) g = (omega arith, λ a. omega (arith, g .1 (a .1)))
 
 led-long : (b k : ℕ) (s : List ℕ) → 0 < k → k ≤ length s → Led (b ∷ s) (found (integer (take k s)) (1 + k))
@@ -73,7 +74,7 @@ module _ (P : Head → Type 0) (stops : (x : Fault) → P (stop x)) where
   within-end : (d : ℕ) (s : List ℕ) (f : ℕ → ℕ → Head) (x : Size) → SizeFits s x
       → ((h n : ℕ) → h + n ≤ length s → (Bytes s → length (normalSize n) ≤ h) → P (f h n)) → P (within d s f x)
   unfolding within
-  within-end d s f cut z g = stops _
+  within-end d s f (cut k) z g = stops _
   within-end d s f (size h n) z g = byLt P (length s - h) n (λ l. stops _) (λ l. g h n (omega arith) (z .1))
 
   pub by-sized : (d : ℕ) (s : List ℕ) (f : ℕ → ℕ → Head)
@@ -85,7 +86,7 @@ module _ (P : Head → Type 0) (stops : (x : Fault) → P (stop x)) where
       → ((n u : ℕ) → u ≤ length s → (Bytes s → length (normalInt (pos n)) ≤ u) → P (f n u)) → P (counted why h f x)
   unfolding counted
   count-found why h s f absent l g = stops _
-  count-found why h s f (short p) l g = stops _
+  count-found why h s f (short p k) l g = stops _
   count-found why h s f (found (pos n) u) l g = g n u (l .0) (l .1)
   count-found why h s f (found (negsuc n) u) l g = stops _
 

@@ -22,5 +22,7 @@ pub mod NormalBytes
 pub mod RoundTrip
 pub mod Minimal
 pub mod Fewer
+pub mod Bounds
 pub mod Faults
+pub mod Growing
 pub mod Examples

@@ -12,7 +12,8 @@ use lib.Pow.{pow-mono}
 use Rattle.format.specs.Choice.{pick, both}
 use Rattle.format.specs.Numbers.{Bytes, val}
 use Rattle.format.specs.Bits.{num, spread, bytesFor, afterMarker}
-use Rattle.format.specs.Refusals.{bad-bits, bad-repeat, Fault}
+use Rattle.format.specs.declared.fault.Fault.{Fault}
+use Rattle.format.specs.Refusals.{bad-bits, bad-repeat}
 use Rattle.format.specs.Items.{Leaf, int, bits, char, empty, xtra, Group, struc, edt, Items, end, group, one, uniform, edtRule}
 use Rattle.format.specs.declared.Class.{Class}
 use Rattle.format.specs.declared.Class.the-variants.{Char7, Sinteger, Linteger, Sbitstr, Lbitstr, String, Struc, Ustruc, Edt, Repeat, Xtra, Bool as Boolean, Empty, Padding, Reserved}

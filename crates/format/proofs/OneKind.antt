@@ -7,7 +7,8 @@ use mathlib.Core.List.{List, [], _∷_, _++_}
 use lib.ListN.{length, take, drop}
 use lib.Dec.{eqb}
 use Rattle.format.specs.Bits.{bytesFor}
-use Rattle.format.specs.Refusals.{bad-bits, Fault}
+use Rattle.format.specs.declared.fault.Fault.{Fault}
+use Rattle.format.specs.Refusals.{bad-bits}
 use Rattle.format.specs.Items.{Group, struc, edt, Items, group, join, INT, BITS, CHAR, BOOL, EMPTY, XTRA, STRUC, EDT, leafKind, groupKind, kinds, allOf, alike, uniform, edtRule}
 use Rattle.format.specs.declared.Class.{Class}
 use Rattle.format.specs.declared.Class.the-variants as C

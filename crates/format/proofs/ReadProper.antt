@@ -9,7 +9,8 @@ use lib.Seq.{length-take-le}
 use lib.Signed.{mag}
 use Rattle.format.specs.Numbers.{Bytes}
 use Rattle.format.specs.Bits.{bytesFor}
-use Rattle.format.specs.Refusals.{bad-bits, bad-repeat, Fault, depthLimit}
+use Rattle.format.specs.declared.fault.Fault.{Fault}
+use Rattle.format.specs.Refusals.{bad-bits, bad-repeat, depthLimit}
 use Rattle.format.specs.Items.{Leaf, int, bits, char, empty, xtra, Group, struc, edt, Items, end, group, one, uniform, edtRule, properLeaf, properGroup, proper}
 use Rattle.format.specs.declared.Class.{Class}
 use Rattle.format.specs.declared.Class.the-variants.{Char7, Sinteger, Linteger, Sbitstr, Lbitstr, String, Struc, Ustruc, Edt, Repeat, Xtra, Bool as Boolean, Empty, Padding, Reserved}

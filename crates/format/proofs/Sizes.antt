@@ -96,15 +96,15 @@ size-least (suc n) k p h =
     split 128 (suc n) (λ g. omega (arith, size-large (suc n) g, width-least (suc n) k p h))
     (λ l. omega (arith, size-small (suc n) (omega arith) l))
 
--- a size lies within the bytes it was read from, and the normal one is not longer
+-- a size lies within the bytes it was read from, and the normal one is not longer; one that is cut wants some
 abbrev pub SizeFits : List ℕ → Size → Type 0
-SizeFits s cut = Unit {0}
+SizeFits s (cut k) = 0 < k
 SizeFits s (size h n) = (h ≤ length s) × (Bytes s → length (normalSize n) ≤ h)
 
 long-fits : (b k : ℕ) (s : List ℕ) → 0 < k → SizeFits (b ∷ s) (longSize k s)
 unfolding longSize
 long-fits b k s p =
-    byLt (SizeFits (b ∷ s)) (length s) k (λ l. tt)
+    byLt (SizeFits (b ∷ s)) (length s) k (λ l. omega arith)
     (λ g. (
       omega arith,
       λ a.
@@ -115,7 +115,7 @@ long-fits b k s p =
 
 pub size-fits : (s : List ℕ) → SizeFits s (sizeOf s)
 unfolding sizeOf
-size-fits [] = tt
+size-fits [] = omega arith
 size-fits (b ∷ s) =
     byLt (SizeFits (b ∷ s)) b 0x80
     (λ l. (

@@ -4,22 +4,28 @@ use mathlib.Core.Option.{Option, none, some}
 use mathlib.Core.List.{List, [], _++_}
 use lib.ListN.{length, drop}
 use Rattle.format.specs.Choice.{ifLt, ifEq}
+use Rattle.format.specs.declared.fault.Fault.{Fault}
 use Rattle.format.specs.Refusals.{too-long, too-many, table-short, not-a-table, too-nested, normal-long, output-short, byteLimit, rowLimit, wordLimit, depthLimit}
 use Rattle.format.specs.Items.{Items}
 use Rattle.format.specs.Messages.{Outcome, refused, says, outcome}
 use Rattle.format.specs.Tables.{rows, dataWords, tableOf, wordsNeeded, itemsOf}
 use Rattle.format.specs.Normal.{normal, depth}
 
--- "Reading returns number, place and words." The table is the lent one after reading.
+-- "Reading returns number, place and words", and with Ask 2 the missing bytes. The table is the lent one after reading.
 pub record Reading : Type 0 where
   pub number : ℕ
   pub place : ℕ
   pub words : ℕ
+  pub missing : ℕ
   pub table : List ℕ
 
 -- "all else gives place 0. Words are those used (0) or needed (11), otherwise 0."
-abbrev pub unread : ℕ → ℕ → ℕ → List ℕ → Reading
-unread why p n t = record { number = why; place = p; words = n; table = t }
+abbrev pub unread : ℕ → ℕ → List ℕ → Reading
+unread why n t = record { number = why; place = 0; words = n; missing = 0; table = t }
+
+-- 2 to 9: "refusals 2 and 3 hand that number up"
+abbrev pub faulty : Fault → List ℕ → Reading
+faulty f t = record { number = f .number; place = f .place; words = 0; missing = f .missing; table = t }
 
 -- the table lent, with another list over its front
 unfoldable pub over : List ℕ → List ℕ → List ℕ
@@ -29,20 +35,20 @@ over l t = l ++ drop (length l) t
 unfoldable pub laid : Items → List ℕ → Reading
 unfolding ifLt rows dataWords wordsNeeded tableOf over
 laid xs t =
-    ifLt rowLimit (rows xs) (unread too-many 0 0 t)
-    (ifLt wordLimit (length (dataWords xs)) (unread too-many 0 0 t)
-    (ifLt (length t) (wordsNeeded xs) (unread table-short 0 (wordsNeeded xs) t)
-    (record { number = 0; place = 0; words = wordsNeeded xs; table = over (tableOf xs) t })))
+    ifLt rowLimit (rows xs) (unread too-many 0 t)
+    (ifLt wordLimit (length (dataWords xs)) (unread too-many 0 t)
+    (ifLt (length t) (wordsNeeded xs) (unread table-short (wordsNeeded xs) t)
+    (record { number = 0; place = 0; words = wordsNeeded xs; missing = 0; table = over (tableOf xs) t })))
 
 unfoldable pub readingOf : Outcome → List ℕ → Reading
 unfolding laid
-readingOf (refused f) t = unread (f .number) (f .place) 0 t
+readingOf (refused f) t = faulty f t
 readingOf (says xs) t = laid xs t
 
 -- "Reading order: 1; then left to right, the first fault met; then 10; then 11."
 unfoldable pub reading : List ℕ → List ℕ → Reading
 unfolding ifLt readingOf outcome
-reading m t = ifLt byteLimit (length m) (unread too-long 0 0 t) (readingOf (outcome m) t)
+reading m t = ifLt byteLimit (length m) (unread too-long 0 t) (readingOf (outcome m) t)
 
 -- "Writing returns number and length: written (0) or needed (15), otherwise 0." The output is the lent one after writing.
 pub record Writing : Type 0 where
@@ -78,20 +84,23 @@ unfolding judged itemsOf told
 normalLength w = judged (itemsOf w) [] told
 
 -- "Normalising reads, then writes, and returns the first refusal with reading's place and words and writing's length (0 if
--- reading refuses); if writing refuses, the table holds the reading and the output is untouched."
+-- reading refuses); if writing refuses, the table holds the reading and the output is untouched." The missing bytes are reading's:
+-- "All callers take the fuller answer".
 pub record Normalising : Type 0 where
   pub number : ℕ
   pub place : ℕ
   pub words : ℕ
   pub length : ℕ
+  pub missing : ℕ
   pub table : List ℕ
   pub output : List ℕ
 
 abbrev pub onlyRead : Reading → List ℕ → Normalising
-onlyRead r o = record { number = r .number; place = r .place; words = r .words; length = 0; table = r .table; output = o }
+onlyRead r o = record { number = r .number; place = r .place; words = r .words; length = 0; missing = r .missing; table = r .table; output = o }
 
 abbrev pub readAnd : Reading → Writing → Normalising
-readAnd r w = record { number = w .number; place = r .place; words = r .words; length = w .length; table = r .table; output = w .output }
+readAnd r w =
+    record { number = w .number; place = r .place; words = r .words; length = w .length; missing = r .missing; table = r .table; output = w .output }
 
 unfoldable pub thenWritten : Reading → List ℕ → Normalising
 unfolding ifEq writing

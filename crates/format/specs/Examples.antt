@@ -10,10 +10,10 @@ use Rattle.format.specs.Items.{int, bits, char, empty, struc, Items, end
 use Rattle.format.specs.Messages.{says, outcome}
 use Rattle.format.specs.Answers.{reading, normalising}
 
--- A message with its items, its whole table and its normal form; or with the number and the place of its refusal.
+-- A message with its items, its whole table and its normal form; or with the number, the place and the missing bytes of its refusal.
 pub data Example : Type 0 where
   accepted : List ℕ → Items → List ℕ → List ℕ → Example
-  rejected : List ℕ → ℕ → ℕ → Example
+  rejected : List ℕ → ℕ → ℕ → ℕ → Example
 
 unfoldable pub ints : List ℕ → Items
 ints [] = end
@@ -121,12 +121,12 @@ line12 = accepted (0xc2 ∷ 0x05 ∷ 0x81 ∷ 0xc4 ∷ 0x02 ∷ 0x9e ∷ 0x80 �
 -- C2 02 E2 01: 3 at 2
 unfoldable pub line13 : Example
 unfolding ints text zeroRows
-line13 = rejected (0xc2 ∷ 0x02 ∷ 0xe2 ∷ 0x01 ∷ []) 3 2
+line13 = rejected (0xc2 ∷ 0x02 ∷ 0xe2 ∷ 0x01 ∷ []) 3 2 1
 
 -- C4 02 82 80: 7 at 0
 unfoldable pub line14 : Example
 unfolding ints text zeroRows
-line14 = rejected (0xc4 ∷ 0x02 ∷ 0x82 ∷ 0x80 ∷ []) 7 0
+line14 = rejected (0xc4 ∷ 0x02 ∷ 0x82 ∷ 0x80 ∷ []) 7 0 0
 
 -- Ask 5. C5 06 C5 01 41 C2 01 81: ("A" (1)), a string and another STRUC in a USTRUC
 unfoldable pub ask5 : Example
@@ -150,28 +150,44 @@ hugeRepeat =
 -- Not named by an ask, but what a reader of Ask 5 could take for its other half: a STRUC that is no string begins no EDT.
 -- C3 05 C2 01 81 81 82: 9 at 0
 unfoldable pub strucFirst : Example
-strucFirst = rejected (0xc3 ∷ 0x05 ∷ 0xc2 ∷ 0x01 ∷ 0x81 ∷ 0x81 ∷ 0x82 ∷ []) 9 0
+strucFirst = rejected (0xc3 ∷ 0x05 ∷ 0xc2 ∷ 0x01 ∷ 0x81 ∷ 0x81 ∷ 0x82 ∷ []) 9 0 0
+
+-- Not marked P: what Ask 2 tells of an object that is cut. An object of fixed length; a size field, from its first byte on; its
+-- contents, outermost and inside; a length, to the end of the LBITSTR and not of the input; and a size of 128 bytes, 2^1016.
+unfoldable pub cuts : List Example
+cuts =
+    rejected (0xe2 ∷ []) 2 0 2
+    ∷ rejected (0xc2 ∷ []) 2 0 1
+    ∷ rejected (0xc2 ∷ 0x82 ∷ []) 2 0 2
+    ∷ rejected (0xc2 ∷ 0x82 ∷ 0x01 ∷ []) 2 0 1
+    ∷ rejected (0xc2 ∷ 0x80 ∷ []) 2 0 128
+    ∷ rejected (0xc2 ∷ 0x04 ∷ 0x82 ∷ []) 2 0 3
+    ∷ rejected (0xc2 ∷ 0x03 ∷ 0xc2 ∷ 0x04 ∷ 0x82 ∷ 0x81 ∷ 0x81 ∷ []) 3 2 3
+    ∷ rejected (0xc1 ∷ 0x02 ∷ 0xe2 ∷ 0x01 ∷ 0x81 ∷ 0x81 ∷ []) 3 2 1
+    ∷ rejected (0xc2 ∷ 0x80 ∷ 0x01 ∷ replicate 127 0) 2 0 65536
+    ∷ []
 
 -- what is lent holds sevens, and two words or bytes more than are needed
 abbrev pub lent : ℕ → List ℕ
 lent n = replicate (n + 2) 7
 
 -- The message says the items; reading answers 0 and lays out the table; normalising answers 0 and gives the normal form. A
--- refusal answers its number and place, and leaves any table as it was.
+-- refusal answers its number, its place and the missing bytes, and leaves any table as it was.
 abbrev pub Holds : Example → Type 0
 Holds (accepted m xs t l) =
     (outcome m ≡ says xs)
-    × (reading m (lent (length t)) ≡ record { number = 0; place = 0; words = length t; table = t ++ (7 ∷ 7 ∷ []) })
+    × (reading m (lent (length t)) ≡ record { number = 0; place = 0; words = length t; missing = 0; table = t ++ (7 ∷ 7 ∷ []) })
     × (normalising m (lent (length t)) (lent (length l))
     ≡ record {
       number = 0;
       place = 0;
       words = length t;
       length = length l;
+      missing = 0;
       table = t ++ (7 ∷ 7 ∷ []);
       output = l ++ (7 ∷ 7 ∷ []);
     })
-Holds (rejected m n p) = (t : List ℕ) → reading m t ≡ record { number = n; place = p; words = 0; table = t }
+Holds (rejected m n p k) = (t : List ℕ) → reading m t ≡ record { number = n; place = p; words = 0; missing = k; table = t }
 
 abbrev pub All : List Example → Type 0
 All [] = Unit {0}

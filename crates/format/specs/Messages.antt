@@ -4,7 +4,8 @@ use mathlib.Core.Bool.{Bool, true, false}
 use mathlib.Core.List.{List, [], _∷_}
 use lib.ListN.{length, drop}
 use Rattle.format.specs.Choice.{pick, both}
-use Rattle.format.specs.Refusals.{several-kinds, bad-edt, Fault, at, further}
+use Rattle.format.specs.declared.fault.Fault.{Fault}
+use Rattle.format.specs.Refusals.{several-kinds, bad-edt, at, further}
 use Rattle.format.specs.Items.{struc, edt, Items, end, group, join, times, uniform, edtRule}
 use Rattle.format.specs.Objects.{Wrap, as-struc, as-ustruc, as-edt, repeated, Head, stop, gives, opens, contents, headOf}
 

@@ -7,7 +7,8 @@ use lib.IntN.{ℤ, pos, negsuc}
 use Rattle.format.specs.Choice.{ifLt, ifEq}
 use Rattle.format.specs.Numbers.{val, signed}
 use Rattle.format.specs.Bits.{isOne, spread, bytesFor, afterMarker}
-use Rattle.format.specs.Refusals.{past-input, past-enclosing, unassigned, too-deep, bad-bits, bad-repeat, Fault, at, depthLimit}
+use Rattle.format.specs.declared.fault.Fault.{Fault}
+use Rattle.format.specs.Refusals.{past-input, past-enclosing, unassigned, too-deep, bad-bits, bad-repeat, at, wants, depthLimit}
 use Rattle.format.specs.Items.{int, bits, char, bool, empty, xtra, struc, Items, end, leaf, group, one}
 use Rattle.format.specs.declared.Class.{Class}
 use Rattle.format.specs.declared.Class.the-variants.{Char7, Sinteger, Linteger, Sbitstr, Lbitstr, String, Struc, Ustruc, Edt, Repeat, Xtra, Bool, Empty, Padding, Reserved}
@@ -36,10 +37,10 @@ unfoldable pub following : ℕ → ℕ
 unfolding ifEq
 following b = ifEq (b % 8) 0 8 (b % 8)
 
--- k bytes behind the type-byte, if they are there
+-- k bytes behind the type-byte, if they are there; if not, "how many bytes are wanting"
 unfoldable pub fixed : ℕ → ℕ → List ℕ → (List ℕ → Head) → Head
 unfolding ifLt past
-fixed d k s f = ifLt (length s) k (stop (at 0 (past d))) (f (take k s))
+fixed d k s f = ifLt (length s) k (stop (wants 0 (past d) (k - length s))) (f (take k s))
 
 -- "LINTEGER: two's complement, high byte first"
 unfoldable pub integer : List ℕ → ℤ
@@ -58,49 +59,52 @@ sbitstrHead (b ∷ p) = ifEq b 0 (stop (at 0 bad-bits)) (gives (one (bits (after
 
 -- "Size: a first byte below 80 is the size itself, 00 meaning 128. From 80 up, its low seven bits say how many bytes follow,
 -- 80 meaning 128 of them; they are the size, high byte first, leading zeros allowed."
--- A size has the number of its own bytes, and what they say.
+-- A size has the number of its own bytes, and what they say; one that is cut, how many of its own bytes are wanting: "from the
+-- size field alone where it is not [complete] (one, if even its first byte is absent)".
 pub data Size : Type 0 where
-  cut : Size
+  cut : ℕ → Size
   size : ℕ → ℕ → Size
 
 unfoldable pub longSize : ℕ → List ℕ → Size
 unfolding ifLt val
-longSize k s = ifLt (length s) k cut (size (1 + k) (val (take k s)))
+longSize k s = ifLt (length s) k (cut (k - length s)) (size (1 + k) (val (take k s)))
 
 unfoldable pub sizeOf : List ℕ → Size
 unfolding ifLt ifEq longSize
-sizeOf [] = cut
+sizeOf [] = cut 1
 sizeOf (b ∷ s) = ifLt b 0x80 (size 1 (ifEq b 0 128 b)) (longSize (ifEq b 0x80 128 (b - 0x80)) s)
 
 unfoldable pub contents : List ℕ → ℕ → ℕ → List ℕ
 contents s h n = take n (drop h s)
 
--- "size bytes present, contents within the end": then what `f` makes of where the contents start, and their size
+-- "size bytes present, contents within the end": then what `f` makes of where the contents start, and their size. If not, the
+-- wanting bytes are told, "from the object's own size where that is complete".
 unfoldable pub within : ℕ → List ℕ → (ℕ → ℕ → Head) → Size → Head
 unfolding ifLt past
-within d s f cut = stop (at 0 (past d))
-within d s f (size h n) = ifLt (length s - h) n (stop (at 0 (past d))) (f h n)
+within d s f (cut k) = stop (wants 0 (past d) k)
+within d s f (size h n) = ifLt (length s - h) n (stop (wants 0 (past d) (n - (length s - h)))) (f h n)
 
 unfoldable pub sized : ℕ → List ℕ → (ℕ → ℕ → Head) → Head
 unfolding within sizeOf
 sized d s f = within d s f (sizeOf s)
 
--- "an INT object", after any padding, at the front of contents: absent; cut short at its own place; or its value and
--- the bytes up to its end
+-- "an INT object", after any padding, at the front of contents: absent; cut short at its own place, so many of its bytes wanting;
+-- or its value and the bytes up to its end
 pub data Leading : Type 0 where
   absent : Leading
-  short : ℕ → Leading
+  short : ℕ → ℕ → Leading
   found : ℤ → ℕ → Leading
 
 unfoldable pub later : Leading → Leading
 later absent = absent
-later (short p) = short (suc p)
+later (short p k) = short (suc p) k
 later (found z u) = found z (suc u)
 
 unfoldable pub leadingBy : Class → ℕ → List ℕ → Leading → Leading
 unfolding ifLt following integer later
 leadingBy Sinteger b s more = found (pos (b - 0x80)) 1
-leadingBy Linteger b s more = ifLt (length s) (following b) (short 0) (found (integer (take (following b) s)) (1 + following b))
+leadingBy Linteger b s more =
+    ifLt (length s) (following b) (short 0 (following b - length s)) (found (integer (take (following b) s)) (1 + following b))
 leadingBy Padding b s more = later more
 leadingBy Char7 b s more = absent
 leadingBy Sbitstr b s more = absent
@@ -125,7 +129,7 @@ leading (b ∷ s) = leadingBy (classOf b) b s (leading s)
 -- `why` is 6 or 7; the contents start at `h`; `f` is given the length or count and the bytes up to its end.
 unfoldable pub counted : ℕ → ℕ → (ℕ → ℕ → Head) → Leading → Head
 counted why h f absent = stop (at 0 why)
-counted why h f (short p) = stop (at (1 + h + p) past-enclosing)
+counted why h f (short p k) = stop (wants (1 + h + p) past-enclosing k)
 counted why h f (found (pos n) u) = f n u
 counted why h f (found (negsuc n) u) = stop (at 0 why)
 

@@ -1,5 +1,6 @@
 -- "The numbers by the shears": with which a message or a table is refused, and the limits.
-use Prim.Native.Nat.{ℕ, _+_}
+use Prim.Native.Nat.{ℕ, _+_, min}
+use Rattle.format.specs.declared.fault.Fault.{Fault}
 
 -- 1: "input over 65,536 bytes"
 abbrev pub too-long : ℕ
@@ -74,14 +75,16 @@ wordLimit = 16384
 abbrev pub depthLimit : ℕ
 depthLimit = 16
 
--- A fault of a message: its number, and "the offset of the faulty object's type-byte". The offset is counted from the start of
--- whatever is being read, and moved outward with it.
-pub record Fault : Type 0 where
-  pub number : ℕ
-  pub place : ℕ
+-- A fault of a message (the struct of src/fault.rt): its `number`; its `place`, "the offset of the faulty object's type-byte", counted
+-- from the start of whatever is being read, and moved outward with it; and `missing`, "how many bytes are wanting".
 
+-- "it is 0 with every other result"
 abbrev pub at : ℕ → ℕ → Fault
-at p n = record { number = n; place = p }
+at p n = record { number = n; place = p; missing = 0 }
+
+-- 2 and 3, for the want of k bytes: "Anything above 65,536 is told as 65,536."
+abbrev pub wants : ℕ → ℕ → ℕ → Fault
+wants p n k = record { number = n; place = p; missing = min k byteLimit }
 
 unfoldable pub further : ℕ → Fault → Fault
-further n f = record { number = f .number; place = n + f .place }
+further n f = record { number = f .number; place = n + f .place; missing = f .missing }

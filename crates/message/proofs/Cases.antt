@@ -7,14 +7,15 @@ use mathlib.Core.Option.{Option, none, some}
 use mathlib.Core.List.{List, _++_}
 use native.Mathlib.Omega.{arith}
 use lib.ListN.{length, drop, take-append-drop}
-use Rattle.format.specs.Refusals.{Fault, byteLimit, rowLimit, wordLimit, depthLimit}
+use Rattle.format.specs.declared.fault.Fault.{Fault}
+use Rattle.format.specs.Refusals.{byteLimit, rowLimit, wordLimit, depthLimit}
 use Rattle.format.specs.Items.{Items}
 use Rattle.format.specs.Messages.{Outcome, refused, says, outcome}
 use Rattle.format.specs.Tables.{rows, dataWords, tableOf, wordsNeeded, itemsOf}
 use Rattle.format.specs.Normal.{normal, depth}
-use Rattle.format.specs.Answers.{Reading, unread, over, laid, readingOf, reading, Writing, unwritten, judged, put, writing}
+use Rattle.format.specs.Answers.{Reading, unread, faulty, over, laid, readingOf, reading, Writing, unwritten, judged, put, writing}
 use Rattle.format.proofs.Choices.{ifLt-no, byLt}
-use Rattle.format.proofs.Faults.{fault-inside}
+use Rattle.format.proofs.Faults.{fault-inside, few-missing}
 use Rattle.format.proofs.TableLaws.{table-back, table-only}
 use Rattle.message.specs.Words.{Says, NoneDue, OverLimits, IsTable, NoTable, Writable}
 
@@ -34,11 +35,11 @@ pub said-once : (m : List ℕ) (xs ys : Items) → Says m xs → Says m ys → x
 said-once m xs ys s e = cc
 
 -- A fact of each answer that reading can give, with what makes it due, is a fact of its answer: 1; 2 to 9; 10; 11; 0.
-pub read-by : (m t : List ℕ) (P : Reading → Type 0) → (byteLimit < length m → P (unread 1 0 0 t))
-    → ((f : Fault) → length m ≤ byteLimit → outcome m ≡ refused f → P (unread (f .number) (f .place) 0 t))
-    → ((xs : Items) → length m ≤ byteLimit → Says m xs → OverLimits xs → P (unread 10 0 0 t))
-    → ((xs : Items) → NoneDue m xs (wordsNeeded xs) → length t < wordsNeeded xs → P (unread 11 0 (wordsNeeded xs) t))
-    → ((xs : Items) → NoneDue m xs (length t) → P (record { number = 0; place = 0; words = wordsNeeded xs; table = over (tableOf xs) t }))
+pub read-by : (m t : List ℕ) (P : Reading → Type 0) → (byteLimit < length m → P (unread 1 0 t))
+    → ((f : Fault) → length m ≤ byteLimit → outcome m ≡ refused f → P (faulty f t))
+    → ((xs : Items) → length m ≤ byteLimit → Says m xs → OverLimits xs → P (unread 10 0 t))
+    → ((xs : Items) → NoneDue m xs (wordsNeeded xs) → length t < wordsNeeded xs → P (unread 11 (wordsNeeded xs) t))
+    → ((xs : Items) → NoneDue m xs (length t) → P (record { number = 0; place = 0; words = wordsNeeded xs; missing = 0; table = over (tableOf xs) t }))
     → P (reading m t)
 unfolding reading
 read-by m t P one fault many room all = byLt P byteLimit (length m) one (λ l. go (outcome m) l refl)
@@ -53,22 +54,25 @@ read-by m t P one fault many room all = byLt P byteLimit (length m) one (λ l. g
         (room xs (record { short = l; said = e; few-rows = r; few-words = w; room = omega arith }))
         (λ n. all xs (record { short = l; said = e; few-rows = r; few-words = w; room = n }))))
 
--- accepted, with everything determined; or refused with one of the numbers 1 to 11, and the table as lent
+-- accepted, with everything determined; or refused with one of the numbers 1 to 11, at most 65,536 bytes missing, and the table as
+-- lent
 pub data Read (m t : List ℕ) : Reading → Type 0 where
   accepted : (xs : Items) → NoneDue m xs (length t)
-      → Read m t (record { number = 0; place = 0; words = wordsNeeded xs; table = over (tableOf xs) t })
-  no-reading : (n p w : ℕ) → 1 ≤ n → n ≤ 11 → Read m t (record { number = n; place = p; words = w; table = t })
+      → Read m t (record { number = 0; place = 0; words = wordsNeeded xs; missing = 0; table = over (tableOf xs) t })
+  no-reading : (n p w k : ℕ) → 1 ≤ n → n ≤ 11 → k ≤ byteLimit → Read m t (record { number = n; place = p; words = w; missing = k; table = t })
 
 pub read-cases : (m t : List ℕ) → Read m t (reading m t)
 read-cases m t =
-    read-by m t (Read m t) (λ h. no-reading 1 0 0 (omega arith) (omega arith))
-    (λ f l e. let n = fault-inside m f e in no-reading (f .number) (f .place) 0 (omega arith) (omega arith))
-    (λ xs l s h. no-reading 10 0 0 (omega arith) (omega arith))
-    (λ xs d h. no-reading 11 0 (wordsNeeded xs) (omega arith) (omega arith))
+    read-by m t (Read m t) (λ h. no-reading 1 0 0 0 (omega arith) (omega arith) (omega arith))
+    (λ f l e.
+    let n = fault-inside m f e in
+    no-reading (f .number) (f .place) 0 (f .missing) (omega arith) (omega arith) (few-missing m f e))
+    (λ xs l s h. no-reading 10 0 0 0 (omega arith) (omega arith) (omega arith))
+    (λ xs d h. no-reading 11 0 (wordsNeeded xs) 0 (omega arith) (omega arith) (omega arith))
     accepted
 
 pub read-due : (m t : List ℕ) (xs : Items) → NoneDue m xs (length t)
-    → reading m t ≡ record { number = 0; place = 0; words = wordsNeeded xs; table = over (tableOf xs) t }
+    → reading m t ≡ record { number = 0; place = 0; words = wordsNeeded xs; missing = 0; table = over (tableOf xs) t }
 unfolding reading readingOf laid
 read-due m t xs f =
     ifLt-no byteLimit (length m) _ _ (f .short) ∙ ap (λ o. readingOf o t) (f .said)

@@ -10,6 +10,7 @@ use native.Mathlib.Omega.{arith}
 use lib.ListN.{length, drop}
 use lib.Seq.{take-at}
 use Rattle.format.specs.Numbers.{Bytes}
+use Rattle.format.specs.Refusals.{byteLimit}
 use Rattle.format.specs.Items.{Items}
 use Rattle.format.specs.Messages.{withoutRepeats}
 use Rattle.format.specs.Tables.{tableOf, wordsNeeded, lawful, itemsOf}
@@ -32,14 +33,22 @@ reading-number m t = go (reading m t) (read-cases m t)
   where
     go : (r : Reading) → Read m t r → r .number ≤ 11
     go r (accepted xs f) = omega arith
-    go r (no-reading n p w a b) = b
+    go r (no-reading n p w k a b c) = b
+
+-- "Demand 1's answers include this number": the missing bytes, told up to 65,536
+pub reading-missing : (m t : List ℕ) → reading m t .missing ≤ byteLimit
+reading-missing m t = go (reading m t) (read-cases m t)
+  where
+    go : (r : Reading) → Read m t r → r .missing ≤ byteLimit
+    go r (accepted xs f) = omega arith
+    go r (no-reading n p w k a b c) = c
 
 pub refused-reading : (m t : List ℕ) → reading m t .number ≢ 0 → reading m t .table ≡ t
 refused-reading m t = go (reading m t) (read-cases m t)
   where
     go : (r : Reading) → Read m t r → r .number ≢ 0 → r .table ≡ t
     go r (accepted xs f) n = absurd (n refl)
-    go r (no-reading n p w a b) z = refl
+    go r (no-reading n p w k a b c) z = refl
 
 pub writing-number : (w o : List ℕ) → (writing w o .number ≡ 0) ⊎ ((12 ≤ writing w o .number) × (writing w o .number ≤ 15))
 writing-number w o = go (writing w o) (write-cases w o)
@@ -91,11 +100,11 @@ accepted-exactly m t = (λ e. go (reading m t) (read-cases m t) e, λ d. ap (λ 
   where
     go : (r : Reading) → Read m t r → r .number ≡ 0 → (xs : Items) × NoneDue m xs (length t)
     go r (accepted xs f) e = (xs, f)
-    go r (no-reading n p w a b) e = absurd (omega arith)
+    go r (no-reading n p w k a b c) e = absurd (omega arith)
 
 -- the whole answer and the whole table, the words past its own unchanged
 pub accepted-table : (m t : List ℕ) (xs : Items) → NoneDue m xs (length t)
-    → reading m t ≡ record { number = 0; place = 0; words = wordsNeeded xs; table = tableOf xs ++ drop (length (tableOf xs)) t }
+    → reading m t ≡ record { number = 0; place = 0; words = wordsNeeded xs; missing = 0; table = tableOf xs ++ drop (length (tableOf xs)) t }
 unfolding over
 accepted-table m t xs d = read-due m t xs d
 
@@ -137,13 +146,14 @@ normalised-whole : (m t o : List ℕ) (xs : Items) → Bytes m → Ready m xs t 
       place = 0;
       words = wordsNeeded xs;
       length = length (normal xs);
+      missing = 0;
       table = over (tableOf xs) t;
       output = over (normal xs) o;
     }
 unfolding normalising
 normalised-whole m t o xs b r =
     ap (λ x. thenWritten x o) (read-due m t xs (r .read))
-    ∙ then-normal o (record { number = 0; place = 0; words = wordsNeeded xs; table = over (tableOf xs) t }) xs refl (read-table m t xs b (r .read))
+    ∙ then-normal o (record { number = 0; place = 0; words = wordsNeeded xs; missing = 0; table = over (tableOf xs) t }) xs refl (read-table m t xs b (r .read))
     (record { shallow = read-depth m xs (r .read .said); short = r .short; room = r .room })
 
 -- "Under demand 3 normalising returns number 0", and what it gives is the message's normal form.

@@ -48,12 +48,14 @@ normalise-by m t o b P unread long room all =
         (λ ys j h l. long ys (same ys j) l) (λ ys j p r. room ys (same ys j) (p .short) r)
         (λ ys j p. all ys (record { read = same ys j; short = p .short; room = p .room }))
 
--- "Normalising reads, then writes, and returns the first refusal with reading's place and words"
-pub normalised-place : (m t o : List ℕ) → (normalising m t o .place ≡ reading m t .place) × (normalising m t o .words ≡ reading m t .words)
+-- "Normalising reads, then writes, and returns the first refusal with reading's place and words", and its missing bytes: "All
+-- callers take the fuller answer"
+pub normalised-place : (m t o : List ℕ)
+    → (normalising m t o .place ≡ reading m t .place) × (normalising m t o .words ≡ reading m t .words) × (normalising m t o .missing ≡ reading m t .missing)
 unfolding normalising thenWritten
 normalised-place m t o =
-    byEq (λ (r : Normalising). (r .place ≡ reading m t .place) × (r .words ≡ reading m t .words)) (reading m t .number) 0 (λ e. (refl, refl))
-    (λ n. (refl, refl))
+    byEq (λ (r : Normalising). (r .place ≡ reading m t .place) × (r .words ≡ reading m t .words) × (r .missing ≡ reading m t .missing))
+    (reading m t .number) 0 (λ e. (refl, refl, refl)) (λ n. (refl, refl, refl))
 
 -- 1 to 11 are reading's
 pub normalising-1-to-11 : (m t o : List ℕ) (n : ℕ) → 1 ≤ n → n ≤ 11 → (normalising m t o .number ≡ n) ↔ (reading m t .number ≡ n)

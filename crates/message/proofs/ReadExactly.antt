@@ -1,17 +1,18 @@
--- Exactly when reading gives each number, with which place and words: theorems about the function that the contract of the public
+-- Exactly when reading gives each number, with which place, words and missing bytes: theorems about the function that the contract of the public
 -- operation cites, as in Demands.antt. The words used are in specs/Words.antt. Assumes nothing.
 use Prim.Native.Nat.{ℕ, _≤_, _<_}
-use mathlib.Core.Path.{_≡_, refl, ap, ap₂, _∙_}
+use mathlib.Core.Path.{_≡_, refl, ap, _∙_}
 use mathlib.Core.Logic.{_≢_, _⊎_, inl, inr, ⊎-elim, _↔_}
 use mathlib.Core.List.{List}
 use native.Mathlib.Omega.{arith}
 use lib.ListN.{length}
-use Rattle.format.specs.Refusals.{Fault, at, byteLimit}
+use Rattle.format.specs.declared.fault.Fault.{Fault}
+use Rattle.format.specs.Refusals.{byteLimit}
 use Rattle.format.specs.Items.{Items}
 use Rattle.format.specs.Messages.{refused, outcome}
 use Rattle.format.specs.Tables.{rows, dataWords, wordsNeeded}
 use Rattle.format.specs.Answers.{Reading, reading}
-use Rattle.format.proofs.Faults.{fault-inside}
+use Rattle.format.proofs.Faults.{fault-inside, missing-with}
 use Rattle.message.specs.Words.{Says, NoneDue, OverLimits}
 use Rattle.message.proofs.Cases.{both-hold, both-fail, not-both, said-once, read-by}
 
@@ -24,6 +25,13 @@ reading-1 m t =
     (λ xs d h. both-fail (λ z. omega arith) (λ h. omega (arith, d .short)))
     (λ xs d. both-fail (λ z. omega arith) (λ h. omega (arith, d .short)))
 
+-- two faults with the same three numbers
+same-fault : (f g : Fault) → f .number ≡ g .number → f .place ≡ g .place → f .missing ≡ g .missing → f ≡ g
+same-fault f g a b c =
+    ap (λ n. record { number = n; place = f .place; missing = f .missing }) a
+    ∙ ap (λ p. record { number = g .number; place = p; missing = f .missing }) b
+    ∙ ap (λ k. record { number = g .number; place = g .place; missing = k }) c
+
 -- items within the limits are not over them
 within-limits : (m : List ℕ) (xs ys : Items) (n : ℕ) → NoneDue m xs n → Says m ys → ¬ OverLimits ys
 within-limits m xs ys n d s (inl h) = let k : rows xs ≡ rows ys = ap rows (said-once m xs ys (d .said) s) in omega (arith, d .few-rows)
@@ -31,22 +39,24 @@ within-limits m xs ys n d s (inr h) =
     let k : length (dataWords xs) ≡ length (dataWords ys) = ap (λ z. length (dataWords z)) (said-once m xs ys (d .said) s) in
     omega (arith, d .few-words)
 
--- 2 to 9, "left to right, the first fault met", at "the offset of the faulty object's type-byte"
-pub reading-2-to-9 : (m t : List ℕ) (n p : ℕ) → 2 ≤ n → n ≤ 9
-    → ((reading m t .number ≡ n) × (reading m t .place ≡ p)) ↔ ((length m ≤ byteLimit) × (outcome m ≡ refused (at p n)))
-reading-2-to-9 m t n p a b =
-    read-by m t (λ (r : Reading). ((r .number ≡ n) × (r .place ≡ p)) ↔ ((length m ≤ byteLimit) × (outcome m ≡ refused (at p n))))
+-- 2 to 9, "left to right, the first fault met", at "the offset of the faulty object's type-byte", with the missing bytes
+pub reading-2-to-9 : (m t : List ℕ) (f : Fault) → 2 ≤ f .number → f .number ≤ 9
+    → ((reading m t .number ≡ f .number) × (reading m t .place ≡ f .place) × (reading m t .missing ≡ f .missing))
+    ↔ ((length m ≤ byteLimit) × (outcome m ≡ refused f))
+reading-2-to-9 m t f a b =
+    read-by m t
+    (λ (r : Reading). ((r .number ≡ f .number) × (r .place ≡ f .place) × (r .missing ≡ f .missing)) ↔ ((length m ≤ byteLimit) × (outcome m ≡ refused f)))
     (λ h. both-fail (λ z. omega (arith, z .0)) (λ x. omega (arith, x .0)))
-    (λ f l e. (
-      λ z. (l, e ∙ ap₂ (λ q k. refused (at q k)) (z .1) (z .0)),
-      λ x. let g : f ≡ at p n = one-fault f (x .1) e in (ap (λ (y : Fault). y .number) g, ap (λ (y : Fault). y .place) g),
-    ))
-    (λ xs l s h. both-fail (λ z. omega (arith, z .0)) (λ x. not-both m xs (at p n) s (x .1)))
-    (λ xs d h. both-fail (λ z. omega (arith, z .0)) (λ x. not-both m xs (at p n) (d .said) (x .1)))
-    (λ xs d. both-fail (λ z. omega (arith, z .0)) (λ x. not-both m xs (at p n) (d .said) (x .1)))
+    (λ g l e. (λ z. (l, e ∙ ap refused (same-fault g f (z .0) (z .1) (z .2))), λ x. parts g (one-fault g (x .1) e)))
+    (λ xs l s h. both-fail (λ z. omega (arith, z .0)) (λ x. not-both m xs f s (x .1)))
+    (λ xs d h. both-fail (λ z. omega (arith, z .0)) (λ x. not-both m xs f (d .said) (x .1)))
+    (λ xs d. both-fail (λ z. omega (arith, z .0)) (λ x. not-both m xs f (d .said) (x .1)))
   where
-    one-fault : (f : Fault) → outcome m ≡ refused (at p n) → outcome m ≡ refused f → f ≡ at p n
-    one-fault f x e = cc
+    one-fault : (g : Fault) → outcome m ≡ refused f → outcome m ≡ refused g → g ≡ f
+    one-fault g x e = cc
+
+    parts : (g : Fault) → g ≡ f → (g .number ≡ f .number) × (g .place ≡ f .place) × (g .missing ≡ f .missing)
+    parts g e = (ap (λ (y : Fault). y .number) e, ap (λ (y : Fault). y .place) e, ap (λ (y : Fault). y .missing) e)
 
 -- 10: "over 16,384 rows or 16,384 data words", when none of 1 to 9 is due
 pub reading-10 : (m t : List ℕ) → (reading m t .number ≡ 10) ↔ ((xs : Items) × (length m ≤ byteLimit) × Says m xs × OverLimits xs)
@@ -103,3 +113,13 @@ no-place m t =
     read-by m t (λ (r : Reading). (r .number < 2) ⊎ (9 < r .number) → r .place ≡ 0) (λ h a. refl)
     (λ f l e a. absurd (⊎-elim (λ h. omega (arith, fault-inside m f e .0)) (λ h. omega (arith, fault-inside m f e .1)) a))
     (λ xs l s h a. refl) (λ xs d h a. refl) (λ xs d a. refl)
+
+-- Ask 2: "refusals 2 and 3 hand that number up", "it is 0 with every other result": bytes are missing exactly with 2 and 3.
+pub missing-exactly : (m t : List ℕ) → (0 < reading m t .missing) ↔ ((reading m t .number ≡ 2) ⊎ (reading m t .number ≡ 3))
+missing-exactly m t =
+    read-by m t (λ (r : Reading). (0 < r .missing) ↔ ((r .number ≡ 2) ⊎ (r .number ≡ 3))) (λ h. none 1 (omega arith) (omega arith))
+    (λ f l e. missing-with m f e) (λ xs l s h. none 10 (omega arith) (omega arith)) (λ xs d h. none 11 (omega arith) (omega arith))
+    (λ xs d. none 0 (omega arith) (omega arith))
+  where
+    none : (n : ℕ) → n ≢ 2 → n ≢ 3 → (0 < 0) ↔ ((n ≡ 2) ⊎ (n ≡ 3))
+    none n a b = both-fail (λ h. omega arith) (λ x. ⊎-elim a b x)

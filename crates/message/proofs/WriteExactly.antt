@@ -187,7 +187,7 @@ short-no-table w h xs i =
 -- ---- what was written is accepted, and reads back as the same table
 
 pub written-back : (w u : List ℕ) (xs : Items) (n : ℕ) → IsTable w xs → Writable xs n → wordsNeeded xs ≤ length u
-    → reading (normal xs) u ≡ record { number = 0; place = 0; words = wordsNeeded xs; table = tableOf xs ++ drop (length (tableOf xs)) u }
+    → reading (normal xs) u ≡ record { number = 0; place = 0; words = wordsNeeded xs; missing = 0; table = tableOf xs ++ drop (length (tableOf xs)) u }
 unfolding over
 written-back w u xs n i f h =
     read-due (normal xs) u xs

@@ -3,17 +3,19 @@
 ghost use mathlib.Core.Path.{_≡_};
 ghost use mathlib.Core.List.{[]};
 ghost use Rattle.format.specs.Answers.{reading, writing, normalLength, normalising};
-ghost use Rattle.message.specs.Told.{readTold, readAnswer, writeTold, normaliseTold};
+ghost use Rattle.message.specs.Told.{readTold, readAnswer, faultAnswer, writeTold, normaliseTold};
 use fill::fill;
+use format::fault::Fault;
 use scan::Scanned;
 use scan::scan_message;
 
-// Reading's answer: 0 or the number of a refusal, its place, and the words used or needed.
+// Reading's answer: 0 or the number of a refusal, its place, the words used or needed, and the bytes missing.
 #[repr(C)]
 pub struct Reading {
     pub number: usize,
     pub place: usize,
     pub words: usize,
+    pub missing: usize,
 }
 
 // Writing's answer: 0 or the number of a refusal, and the length written or needed.
@@ -23,22 +25,37 @@ pub struct Writing {
     pub length: usize,
 }
 
-// Normalising's answer: the first refusal's number or 0, reading's place and words, and writing's length.
+// Normalising's answer: the first refusal's number or 0, reading's place, words and missing bytes, and writing's length.
 #[repr(C)]
 pub struct Normalising {
     pub number: usize,
     pub place: usize,
     pub words: usize,
     pub length: usize,
+    pub missing: usize,
 }
 
-fn answered(number: usize, place: usize, words: usize) -> Reading
-    ensures { λ r. ⌜ r ≡ readAnswer number place words ⌝ }
+// The answer for a message with a fault.
+fn refused(f: Fault) -> Reading
+    ensures { λ r. ⌜ r ≡ faultAnswer f ⌝ }
+{
+    Reading {
+        number: f.number,
+        place: f.place,
+        words: 0,
+        missing: f.missing,
+    }
+}
+
+// The answer for any other.
+fn answered(number: usize, words: usize) -> Reading
+    ensures { λ r. ⌜ r ≡ readAnswer number words ⌝ }
 {
     Reading {
         number,
-        place,
+        place: 0,
         words,
+        missing: 0,
     }
 }
 
@@ -47,24 +64,24 @@ pub fn read(message: &[u8], table: &mut [u64]) -> Reading
     ensures { λ r. ⌜ readTold r (now (table .exit)) ≡ reading (now (message .entry)) (now (table .entry)) ⌝ }
 {
     if message.len() > 65536 {
-        return answered(1, 0, 0);
+        return answered(1, 0);
     }
     let scanned = scan_message(message);
     match scanned {
-        Scanned::Refused(number, place) => answered(number, place, 0),
+        Scanned::Refused(f) => refused(f),
         Scanned::Accepted(sum) => {
             if sum.rows > 16384 {
-                return answered(10, 0, 0);
+                return answered(10, 0);
             }
             if sum.words > 16384 {
-                return answered(10, 0, 0);
+                return answered(10, 0);
             }
             let needed = 4 + 3 * sum.rows + sum.words;
             if table.len() < needed {
-                return answered(11, 0, needed);
+                return answered(11, needed);
             }
             fill(message, table, sum.rows, sum.words);
-            answered(0, 0, needed)
+            answered(0, needed)
         }
     }
 }
@@ -102,6 +119,7 @@ pub fn normalise(message: &[u8], table: &mut [u64], output: &mut [u8]) -> Normal
             place: r.place,
             words: r.words,
             length: 0,
+            missing: r.missing,
         };
     }
     let w = write(table, output);
@@ -110,5 +128,6 @@ pub fn normalise(message: &[u8], table: &mut [u64], output: &mut [u8]) -> Normal
         place: r.place,
         words: r.words,
         length: w.length,
+        missing: r.missing,
     }
 }

@@ -2,7 +2,6 @@ pub mod Told
 pub mod KindsMet
 pub mod Leads
 pub mod SumLaws
-pub mod Bounds
 pub mod Turns
 pub mod Stretches
 pub mod ObjectCases

@@ -10,6 +10,7 @@ use lib.ListN.{length, take, drop, length-drop}
 use lib.Seq.{length-take-le}
 use Rattle.format.specs.Choice.{pick, ifEq}
 use Rattle.format.specs.Bits.{spread, bytesFor, wordsFor}
+use Rattle.format.specs.declared.fault.Fault.{Fault}
 use Rattle.format.specs.Refusals.{at, further}
 use Rattle.format.specs.Items.{Items, end, group, struc, edt, one, bits, groupKind, kinds, uniform, edtRule}
 use Rattle.format.specs.Objects as O
@@ -33,7 +34,7 @@ use Rattle.scan.proofs.KindsMet.{kinds-codes, several}
 use Rattle.scan.proofs.Leads.{edt-leads}
 use Rattle.scan.proofs.SumLaws.{sum-none, sum-row, sum-bits, sum-text, sum-group, sum-struc, sum-times}
 use Rattle.scan.proofs.Told.{refused-run, accepted-run}
-use Rattle.scan.proofs.Bounds.{HeadWithin, head-within, RunWithin, reads-within}
+use Rattle.format.proofs.Bounds.{HeadWithin, head-within, RunWithin, reads-within}
 
 -- ---- closing
 picked : (b : Bool) (x y : Object) → answerObject (pick b x y) ≡ pick b (answerObject x) (answerObject y)
@@ -41,19 +42,19 @@ unfolding pick
 picked true x y = refl
 picked false x y = refl
 
-ustruc-by : (a x : Summary) (u : ℕ) → closedBy (ustrucFault a) x u ≡ ifEq (a .mix) 255 (Bad 8 0) (Got x u)
+ustruc-by : (a x : Summary) (u : ℕ) → closedBy (ustrucFault a) x u ≡ ifEq (a .mix) 255 (Bad (at 0 8)) (Got x u)
 unfolding ifEq ustrucFault closedBy
 ustruc-by a x u = go (eqb (a .mix) 255)
   where
-    go : (t : Bool) → closedBy (pick t 8 0) x u ≡ pick t (Bad 8 0) (Got x u)
+    go : (t : Bool) → closedBy (pick t 8 0) x u ≡ pick t (Bad (at 0 8)) (Got x u)
     go true = refl
     go false = refl
 
-edt-by : (a x : Summary) (u : ℕ) → closedBy (edtFault a) x u ≡ ifEq (a .second) 1 (ifEq (a .first) 1 (Got x u) (ifEq (a .first) 9 (Got x u) (Bad 9 0))) (Bad 9 0)
+edt-by : (a x : Summary) (u : ℕ) → closedBy (edtFault a) x u ≡ ifEq (a .second) 1 (ifEq (a .first) 1 (Got x u) (ifEq (a .first) 9 (Got x u) (Bad (at 0 9)))) (Bad (at 0 9))
 unfolding ifEq edtFault closedBy
 edt-by a x u = go (eqb (a .second) 1) (eqb (a .first) 1) (eqb (a .first) 9)
   where
-    go : (r p q : Bool) → closedBy (pick r (pick p 0 (pick q 0 9)) 9) x u ≡ pick r (pick p (Got x u) (pick q (Got x u) (Bad 9 0))) (Bad 9 0)
+    go : (r p q : Bool) → closedBy (pick r (pick p 0 (pick q 0 9)) 9) x u ≡ pick r (pick p (Got x u) (pick q (Got x u) (Bad (at 0 9)))) (Bad (at 0 9))
     go false p q = refl
     go true true q = refl
     go true false true = refl
@@ -63,9 +64,9 @@ pub closed-answer : (w : Wrap) (u : ℕ) (xs : Items) → answerObject (closing 
 unfolding closing wrapOf closedOf answerObject sumOf uniform groupKind lead
 closed-answer Struc u xs = ap (λ a. Got a u) (sum-struc xs)
 closed-answer Ustruc u xs =
-    picked (uniform xs) _ _ ∙ ap (λ a. pick (uniform xs) (Got a u) (Bad 8 0)) (sum-struc xs) ∙ sym (several (kinds xs) _ _ (kinds-codes xs)) ∙ sym (ustruc-by (sumOf xs) _ u)
+    picked (uniform xs) _ _ ∙ ap (λ a. pick (uniform xs) (Got a u) (Bad (at 0 8))) (sum-struc xs) ∙ sym (several (kinds xs) _ _ (kinds-codes xs)) ∙ sym (ustruc-by (sumOf xs) _ u)
 closed-answer Edt u xs =
-    picked (edtRule xs) _ _ ∙ ap (λ a. pick (edtRule xs) (Got a u) (Bad 9 0)) (sum-group edt xs) ∙ sym (edt-leads xs _ _) ∙ sym (edt-by (sumOf xs) _ u)
+    picked (edtRule xs) _ _ ∙ ap (λ a. pick (edtRule xs) (Got a u) (Bad (at 0 9))) (sum-group edt xs) ∙ sym (edt-leads xs _ _) ∙ sym (edt-by (sumOf xs) _ u)
 closed-answer (Repeat k) u xs = ap (λ a. Got a u) (sum-times k xs)
 
 -- ---- the cases of a head, as the code has them
@@ -86,9 +87,9 @@ module _ (d b : ℕ) (s : List ℕ) (r : Head) (t : HeadIs s r (O.headOf d b s))
   unfolding object answerObject
   given xs u a e f = ap (λ z. Got z u) f ∙ sym (ap answerObject (as-head (O.gives xs u) e))
 
-  pub stop-is : (n p : ℕ) → r ≡ Stop n p → Bad n p ≡ answerObject (objectAt d b s)
+  pub stop-is : (f : Fault) → r ≡ Stop f → Bad f ≡ answerObject (objectAt d b s)
   unfolding object answerObject
-  stop-is n p e = sym (ap answerObject (as-head (O.stop (at p n)) (is (Stop n p) e)))
+  stop-is f e = sym (ap answerObject (as-head (O.stop f) (is (Stop f) e)))
 
   pub gap-is : (a : Summary) → r ≡ Gap → a ≡ nothingOf → Got a 0 ≡ answerObject (objectAt d b s)
   gap-is a e f = given end 0 a (is Gap e) (f ∙ sym sum-none)
@@ -143,16 +144,16 @@ module _ (d b : ℕ) (s : List ℕ) (r : Head) (t : HeadIs s r (O.headOf d b s))
         as-head (O.opens (wrapOf w) a n) (is (Open w a n) e .0)
         ∙ ap₂ (λ k l. around (wrapOf w) a n (reads k l)) (sym (add-one d)) (sym (middle-part s a n))
 
-    pub open-place : (m p : ℕ) → Refused m p ≡ answer inner → p < n
+    pub open-place : (f : Fault) → Refused f ≡ answer inner → f .place < n
     unfolding O.contents
-    open-place m p y =
+    open-place f y =
         let l : length (take (a + n - a) (drop a s)) ≡ n = ap length (middle-part s a n) ∙ contents-length s a n (open-fits .0) in
-        subst (RunWithin n) (refused-run m p inner y)
+        subst (RunWithin n) (refused-run f inner y)
         (subst (λ k. RunWithin k inner) l (reads-within (d + 1) (take (a + n - a) (drop a s))))
 
-    pub open-refused : (m p : ℕ) → Refused m p ≡ answer inner → Bad m (1 + a + p) ≡ answerObject (objectAt d b s)
-    unfolding around further answerObject
-    open-refused m p y = sym (ap answerObject (open-as ∙ ap (around (wrapOf w) a n) (refused-run m p inner y)))
+    pub open-refused : (f : Fault) → Refused f ≡ answer inner → Bad (further (1 + a) f) ≡ answerObject (objectAt d b s)
+    unfolding around answerObject
+    open-refused f y = sym (ap answerObject (open-as ∙ ap (around (wrapOf w) a n) (refused-run f inner y)))
 
     pub open-accepted : (c : Summary) (o : D.Object) → Accepted c ≡ answer inner → o ≡ closedOf w c (a + n) → o ≡ answerObject (objectAt d b s)
     unfolding around

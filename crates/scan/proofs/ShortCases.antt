@@ -11,7 +11,8 @@ use lib.Dec.{eqb}
 use lib.ListN.{length, take, drop, getD, length-drop, drop-of-length-le}
 use lib.Seq.{drop-drop}
 use Rattle.format.specs.Choice.{pick, ifEq}
-use Rattle.format.specs.Refusals.{further}
+use Rattle.format.specs.declared.fault.Fault.{Fault}
+use Rattle.format.specs.Refusals.{at, further}
 use Rattle.format.specs.Items.{Items, end, group, struc}
 use Rattle.format.specs.Objects as O
 use Rattle.format.specs.Messages.{got, closing, around, object, onto, reads, says}
@@ -32,7 +33,7 @@ use Rattle.scan.specs.Answer.{answer, answerObject, ustrucFault, edtFaul
 use Rattle.scan.specs.Shorts.{shortObject, asObject, faultOf, shortGroup, textFault}
 use Rattle.scan.proofs.SumLaws.{sum-text}
 use Rattle.scan.proofs.Told.{refused-run, accepted-run}
-use Rattle.scan.proofs.Bounds.{RunWithin, reads-within}
+use Rattle.format.proofs.Bounds.{RunWithin, reads-within}
 use Rattle.scan.proofs.Turns.{Inv, bad-turn, got-turn}
 use Rattle.scan.proofs.Stretches.{chars-leapt}
 use Rattle.scan.proofs.ObjectCases.{closed-answer}
@@ -41,13 +42,13 @@ use Rattle.scan.proofs.ObjectCases.{closed-answer}
 -- a container, from what its contents come to
 unfoldable shortClosed : ℕ → Summary → Scanned
 unfolding ifEq faultOf shortGroup
-shortClosed b a = ifEq (faultOf b a) 0 (Accepted (shortGroup b a)) (Refused (faultOf b a) 0)
+shortClosed b a = ifEq (faultOf b a) 0 (Accepted (shortGroup b a)) (Refused (at 0 (faultOf b a)))
 
-by-fault : (f u : ℕ) (x : Summary) → asObject u (ifEq f 0 (Accepted x) (Refused f 0)) ≡ closedBy f x u
+by-fault : (f u : ℕ) (x : Summary) → asObject u (ifEq f 0 (Accepted x) (Refused (at 0 f))) ≡ closedBy f x u
 unfolding ifEq closedBy asObject
 by-fault f u x = go (eqb f 0)
   where
-    go : (t : Bool) → asObject u (pick t (Accepted x) (Refused f 0)) ≡ pick t (Got x u) (Bad f 0)
+    go : (t : Bool) → asObject u (pick t (Accepted x) (Refused (at 0 f))) ≡ pick t (Got x u) (Bad (at 0 f))
     go true = refl
     go false = refl
 
@@ -84,7 +85,7 @@ chars-fault n = go (eqb n 1)
 -- a container of n CHARs
 unfoldable shortText : ℕ → ℕ → Scanned
 unfolding ifEq textFault
-shortText b n = ifEq (textFault b) 0 (Accepted (textOf (n + 1))) (Refused (textFault b) 0)
+shortText b n = ifEq (textFault b) 0 (Accepted (textOf (n + 1))) (Refused (at 0 (textFault b)))
 
 chars-closed : (b n : ℕ) → n ≤ 127 → shortText b n ≡ shortClosed b (chars n)
 unfolding ifEq shortText textFault shortClosed faultOf ustrucFault shortGroup chars strucOf strucLead
@@ -125,9 +126,9 @@ module _ (d b : ℕ) (c : List ℕ) where
     closes xs e = closed-is b (1 + length c) xs ∙ sym (ap answerObject (as-around ∙ ap (around (shortWrap b) 1 (length c)) e))
 
     -- with a fault, and without
-    faulty : (f : ℕ) (a : Summary) → f ≢ 0 → f ≡ faultOf b a → Refused f 0 ≡ shortClosed b a
+    faulty : (f : ℕ) (a : Summary) → f ≢ 0 → f ≡ faultOf b a → Refused (at 0 f) ≡ shortClosed b a
     unfolding shortClosed
-    faulty f a z e = ap (λ k. Refused k 0) e ∙ sym (ifEq-no _ _ _ _ (λ y. z (e ∙ y)))
+    faulty f a z e = ap (λ k. Refused (at 0 k)) e ∙ sym (ifEq-no _ _ _ _ (λ y. z (e ∙ y)))
 
     whole : (f : ℕ) (a x : Summary) → f ≡ 0 → f ≡ faultOf b a → x ≡ shortGroup b a → Accepted x ≡ shortClosed b a
     unfolding shortClosed
@@ -140,20 +141,20 @@ module _ (d b : ℕ) (c : List ℕ) where
           ap (asObject (1 + length c)) (chars-closed b (length c) h ∙ ap (shortClosed b) (sym (x .2 ∙ chars-sum (length c) g h)))
           ∙ closes (x .0) (x .1)
 
-      pub chars-refused : f ≢ 0 → asObject (1 + length c) (Refused f 0) ≡ answerObject (shortObject d b c)
+      pub chars-refused : (x : Fault) → x ≡ at 0 f → f ≢ 0 → asObject (1 + length c) (Refused x) ≡ answerObject (shortObject d b c)
       unfolding shortText
-      chars-refused z = ap (asObject (1 + length c)) (ap (λ k. Refused k 0) e ∙ sym (ifEq-no _ _ _ _ (λ y. z (e ∙ y)))) ∙ chars-are
+      chars-refused x ex z = ap (asObject (1 + length c)) (ap Refused ex ∙ ap (λ k. Refused (at 0 k)) e ∙ sym (ifEq-no _ _ _ _ (λ y. z (e ∙ y)))) ∙ chars-are
 
       pub chars-accepted : f ≡ 0 → (a : Summary) → a ≡ textOf (length c + 1) → asObject (1 + length c) (Accepted a) ≡ answerObject (shortObject d b c)
       unfolding shortText
       chars-accepted z a y = ap (asObject (1 + length c)) (ap Accepted y ∙ sym (ifEq-yes _ _ _ _ (sym e ∙ z))) ∙ chars-are
 
-    pub short-place : (m p : ℕ) → Refused m p ≡ answer (reads (d + 1) c) → p < length c
-    short-place m p y = subst (RunWithin (length c)) (refused-run m p (reads (d + 1) c) y) (reads-within (d + 1) c)
+    pub short-place : (f : Fault) → Refused f ≡ answer (reads (d + 1) c) → f .place < length c
+    short-place f y = subst (RunWithin (length c)) (refused-run f (reads (d + 1) c) y) (reads-within (d + 1) c)
 
-    pub short-refused : (m p : ℕ) → Refused m p ≡ answer (reads (d + 1) c) → asObject (1 + length c) (Refused m (2 + p)) ≡ answerObject (shortObject d b c)
-    unfolding asObject around further answerObject
-    short-refused m p y = sym (ap answerObject (as-around ∙ ap (around (shortWrap b) 1 (length c)) (refused-run m p (reads (d + 1) c) y)))
+    pub short-refused : (f x : Fault) → x ≡ further 2 f → Refused f ≡ answer (reads (d + 1) c) → asObject (1 + length c) (Refused x) ≡ answerObject (shortObject d b c)
+    unfolding asObject around answerObject
+    short-refused f x ex y = ap Bad ex ∙ sym (ap answerObject (as-around ∙ ap (around (shortWrap b) 1 (length c)) (refused-run f (reads (d + 1) c) y)))
 
     module _ (a : Summary) (y : Accepted a ≡ answer (reads (d + 1) c)) (f : ℕ) (e : f ≡ faultOf b a) where
       closed-as : (r : Scanned) → r ≡ shortClosed b a → asObject (1 + length c) r ≡ answerObject (shortObject d b c)
@@ -161,8 +162,8 @@ module _ (d b : ℕ) (c : List ℕ) where
           let x = accepted-run a (reads (d + 1) c) y in
           ap (asObject (1 + length c)) (k ∙ ap (shortClosed b) (x .2)) ∙ closes (x .0) (x .1)
 
-      pub short-faulty : f ≢ 0 → asObject (1 + length c) (Refused f 0) ≡ answerObject (shortObject d b c)
-      short-faulty z = closed-as (Refused f 0) (faulty f a z e)
+      pub short-faulty : (x : Fault) → x ≡ at 0 f → f ≢ 0 → asObject (1 + length c) (Refused x) ≡ answerObject (shortObject d b c)
+      short-faulty x ex z = closed-as (Refused x) (ap Refused ex ∙ faulty f a z e)
 
       pub short-whole : f ≡ 0 → (x : Summary) → x ≡ shortGroup b a → asObject (1 + length c) (Accepted x) ≡ answerObject (shortObject d b c)
       short-whole z x g = closed-as (Accepted x) (whole f a x z e g)
@@ -201,10 +202,10 @@ module _ (d : ℕ) (s : List ℕ) (i n : ℕ) (h : i < length s) (a : ShortAt d 
       ∙ ap answerObject (sym (short-at d (getD s i 0) (take (length s - (i + 1)) (drop (i + 1) s)) n a))
 
   module _ (x : Summary) (v : Inv d s i x) where
-    pub bad-short : (r : Scanned) (m p : ℕ) → r ≡ Refused m p → asObject (1 + length inside) r ≡ answerObject (shortObject d (getD s i 0) inside)
-        → (i + p < length s) × (Refused m (i + p) ≡ answer (reads d s))
+    pub bad-short : (r : Scanned) (f : Fault) → r ≡ Refused f → asObject (1 + length inside) r ≡ answerObject (shortObject d (getD s i 0) inside)
+        → (i + f .place < length s) × (Refused (further i f) ≡ answer (reads d s))
     unfolding asObject
-    bad-short r m p e y = bad-turn d s i x v h m p (ap (asObject (1 + n)) (sym e) ∙ short-here r y)
+    bad-short r f e y = bad-turn d s i x v h f (ap (asObject (1 + n)) (sym e) ∙ short-here r y)
 
     pub got-short : (r : Scanned) (z : Summary) → r ≡ Accepted z → asObject (1 + length inside) r ≡ answerObject (shortObject d (getD s i 0) inside)
         → (c : Summary) → c ≡ plusOf x z → Inv d s (i + 2 + n) c

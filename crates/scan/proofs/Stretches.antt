@@ -25,7 +25,8 @@ use Rattle.scan.specs.declared.summary.Summary.{Summary}
 use Rattle.scan.specs.Sums.{sumOf, nothingOf, oneOf, plusOf, powerOf}
 use Rattle.scan.specs.Stretch.{Counted, Leapt}
 use Rattle.scan.proofs.SumLaws.{sum-none, sum-row, sum-join, sum-times}
-use Rattle.scan.proofs.Turns.{onto-none, onto-onto, turn}
+use Rattle.format.proofs.Growing.{onto-none, onto-onto}
+use Rattle.scan.proofs.Turns.{turn}
 
 -- ---- a stretch from i on whose objects each come to y
 -- an object of the type-byte b is that byte alone, and comes to y

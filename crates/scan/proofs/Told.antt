@@ -1,9 +1,9 @@
 -- What an answer tells of the meaning: of a run, of an object, and of the rows and data words of what is accepted. Assumes nothing.
 use Prim.Native.Nat.{ℕ, min}
 use native.Mathlib.Omega.{arith}
-use mathlib.Core.Path.{_≡_, refl, sym, ap₂}
+use mathlib.Core.Path.{_≡_, refl, sym, ap}
 use lib.ListN.{length}
-use Rattle.format.specs.Refusals.{at}
+use Rattle.format.specs.declared.fault.Fault.{Fault}
 use Rattle.format.specs.Items.{Items}
 use Rattle.format.specs.Messages.{Outcome, refused, says, Object, bad, got}
 use Rattle.format.specs.Tables.{rows, dataWords}
@@ -25,26 +25,20 @@ sum-words xs = refl
 never {ℓ} : {A : Type ℓ} → _≡_ {A = ℕ} 0 1 → A
 never e = absurd (omega arith)
 
-pub refused-run : (n p : ℕ) (z : Outcome) → Refused n p ≡ answer z → z ≡ refused (at p n)
+pub refused-run : (x : Fault) (z : Outcome) → Refused x ≡ answer z → z ≡ refused x
 unfolding answer
-refused-run n p (refused f) e =
-    let a : n ≡ f .number = cc in
-    let b : p ≡ f .place = cc in
-    ap₂ (λ q m. refused (at q m)) (sym b) (sym a)
-refused-run n p (says xs) e = never (cc)
+refused-run x (refused f) e = let a : x ≡ f = cc in ap refused (sym a)
+refused-run x (says xs) e = never (cc)
 
 pub accepted-run : (a : Summary) (z : Outcome) → Accepted a ≡ answer z → (xs : Items) × (z ≡ says xs) × (a ≡ sumOf xs)
 unfolding answer
 accepted-run a (refused f) e = never (cc)
 accepted-run a (says xs) e = (xs, refl, cc)
 
-pub bad-object : (n p : ℕ) (x : Object) → Bad n p ≡ answerObject x → x ≡ bad (at p n)
+pub bad-object : (x : Fault) (o : Object) → Bad x ≡ answerObject o → o ≡ bad x
 unfolding answerObject
-bad-object n p (bad f) e =
-    let a : n ≡ f .number = cc in
-    let b : p ≡ f .place = cc in
-    ap₂ (λ q m. bad (at q m)) (sym b) (sym a)
-bad-object n p (got xs u) e = never (cc)
+bad-object x (bad f) e = let a : x ≡ f = cc in ap bad (sym a)
+bad-object x (got xs u) e = never (cc)
 
 pub got-object : (a : Summary) (u : ℕ) (x : Object) → Got a u ≡ answerObject x → (xs : Items) × (x ≡ got xs u) × (a ≡ sumOf xs)
 unfolding answerObject

@@ -2,15 +2,16 @@
 use Prim.Native.Nat.{ℕ, suc, _+_, _-_, _≤_, _<_, zero-le}
 use native.Mathlib.Omega.{arith}
 use native.Mathlib.Numerals.{add-one}
-use mathlib.Core.Path.{_≡_, refl, sym, ap, ap₂, _∙_, subst, fun-ext}
+use mathlib.Core.Path.{_≡_, sym, ap, ap₂, _∙_, subst, fun-ext}
 use mathlib.Core.List.{List}
 use lib.ListN.{length, take, drop, getD, length-drop, drop-of-length-le}
 use lib.Seq.{drop-cons, drop-drop}
-use Rattle.format.specs.Refusals.{at, further}
+use Rattle.format.specs.declared.fault.Fault.{Fault}
+use Rattle.format.specs.Refusals.{further}
 use Rattle.format.specs.Items.{Items, end, join}
-use Rattle.format.specs.Messages.{Outcome, refused, says, Object, bad, got, onto, next, reads}
+use Rattle.format.specs.Messages.{Object, bad, got, onto, next, reads}
 use Rattle.format.proofs.Parts.{rest-part}
-use Rattle.format.proofs.Counts.{join-end, join-assoc}
+use Rattle.format.proofs.Counts.{join-end}
 use Rattle.format.proofs.Steps.{reads-nil, reads-cons, objectAt}
 use Rattle.scan.specs.declared.summary.Summary.{Summary}
 use Rattle.scan.specs.declared.Scanned.the-variants.{Refused, Accepted}
@@ -21,18 +22,8 @@ use Rattle.scan.specs.Answer.{answer, answerObject}
 use Rattle.scan.specs.Stretch.{Leapt}
 use Rattle.scan.proofs.Told.{bad-object, got-object}
 use Rattle.scan.proofs.SumLaws.{sum-none, sum-join}
-use Rattle.scan.proofs.Bounds.{ObjectWithin, at-within}
-
--- ---- a run goes on
-pub onto-none : (z : Outcome) → z ≡ onto end 0 z
-unfolding onto further join
-onto-none (refused f) = ap (λ p. refused (at p (f .number))) (omega arith)
-onto-none (says ys) = refl
-
-pub onto-onto : (xs ys : Items) (i n : ℕ) (z : Outcome) → onto xs i (onto ys n z) ≡ onto (join xs ys) (i + n) z
-unfolding onto further
-onto-onto xs ys i n (refused f) = ap (λ p. refused (at p (f .number))) (omega arith)
-onto-onto xs ys i n (says zs) = ap says (sym (join-assoc xs ys zs))
+use Rattle.format.proofs.Bounds.{ObjectWithin, at-within}
+use Rattle.format.proofs.Growing.{onto-none, onto-onto}
 
 -- the object at i, and then what is said past it
 pub turn : (d : ℕ) (s : List ℕ) (i : ℕ) → i < length s → reads d (drop i s) ≡ next (objectAt d (getD s i 0) (drop (i + 1) s)) (λ u. reads d (drop (i + (1 + u)) s))
@@ -91,12 +82,12 @@ module _ (d : ℕ) (s : List ℕ) (i : ℕ) (a : Summary) (v : Inv d s i a) wher
     here-next : (x : Object) → here ≡ x → reads d (drop i s) ≡ next x (λ u. reads d (drop (i + (1 + u)) s))
     here-next x e = turn d s i h ∙ ap (λ o. next o (λ u. reads d (drop (i + (1 + u)) s))) (sym here-is ∙ e)
 
-    pub bad-turn : (n p : ℕ) → Bad n p ≡ answerObject here → (i + p < length s) × (Refused n (i + p) ≡ answer (reads d s))
-    unfolding next onto further answer
-    bad-turn n p e =
-        let x : here ≡ bad (at p n) = bad-object n p here e in
-        let l : p ≤ length s - (i + 1) = here-within (bad (at p n)) x in
-        (omega arith, sym (ap answer (v .so-far ∙ ap (onto (v .items) i) (here-next (bad (at p n)) x))))
+    pub bad-turn : (f : Fault) → Bad f ≡ answerObject here → (i + f .place < length s) × (Refused (further i f) ≡ answer (reads d s))
+    unfolding next onto answer
+    bad-turn f e =
+        let x : here ≡ bad f = bad-object f here e in
+        let l : f .place ≤ length s - (i + 1) = here-within (bad f) x in
+        (omega arith, sym (ap answer (v .so-far ∙ ap (onto (v .items) i) (here-next (bad f) x))))
 
     pub got-turn : (b : Summary) (u : ℕ) → Got b u ≡ answerObject here → (c : Summary) → c ≡ plusOf a b → (i + (1 + u) ≤ length s) × Inv d s (i + (1 + u)) c
     unfolding next

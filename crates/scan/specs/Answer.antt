@@ -1,7 +1,7 @@
 -- What the scan answers, from what the bytes say.
 use Prim.Native.Nat.{ℕ}
 use Rattle.format.specs.Choice.{ifEq}
-use Rattle.format.specs.Refusals.{several-kinds, bad-edt}
+use Rattle.format.specs.Refusals.{several-kinds, bad-edt, at}
 use Rattle.format.specs.Items.{INT}
 use Rattle.format.specs.Messages as M
 use Rattle.wire.specs.declared.head.Wrap.{Wrap}
@@ -15,12 +15,12 @@ use Rattle.scan.specs.Sums.{STRING, sumOf, powerOf, strucOf, edtOf}
 
 unfoldable pub answer : M.Outcome → Scanned
 unfolding sumOf
-answer (M.refused f) = Refused (f .number) (f .place)
+answer (M.refused f) = Refused f
 answer (M.says xs) = Accepted (sumOf xs)
 
 unfoldable pub answerObject : M.Object → Object
 unfolding sumOf
-answerObject (M.bad f) = Bad (f .number) (f .place)
+answerObject (M.bad f) = Bad f
 answerObject (M.got xs u) = Got (sumOf xs) u
 
 -- the refusal of a container for the kinds of its elements, or 0
@@ -35,7 +35,7 @@ edtFault a = ifEq (a .second) INT (ifEq (a .first) INT 0 (ifEq (a .first) STRING
 -- a container, from its refusal or 0 and the item that it is; `u` are its bytes past the type-byte
 unfoldable pub closedBy : ℕ → Summary → ℕ → Object
 unfolding ifEq
-closedBy f x u = ifEq f 0 (Got x u) (Bad f 0)
+closedBy f x u = ifEq f 0 (Got x u) (Bad (at 0 f))
 
 -- a container, from what its contents come to
 unfoldable pub closedOf : Wrap → Summary → ℕ → Object

@@ -23,7 +23,7 @@ shortObject d b c = ifEq b 0xc6 (M.got (group struc (characters c) end) (1 + len
 
 -- an answer about one item, as one about an object of u bytes past its type-byte
 unfoldable pub asObject : ℕ → Scanned → Object
-asObject u (Refused n p) = Bad n p
+asObject u (Refused f) = Bad f
 asObject u (Accepted a) = Got a u
 
 -- the refusal of a container for the kinds of its elements, or 0, by its type-byte

@@ -9,14 +9,17 @@ use super::summary::Summary;
 use super::summary::edt;
 use super::summary::power;
 use super::summary::struc;
+use format::fault::BAD_EDT;
+use format::fault::Fault;
+use format::fault::SEVERAL_KINDS;
+use format::fault::at;
 use wire::head::Wrap;
 use wire::short::is_edt;
 use wire::short::is_ustruc;
 
-// What an object comes to: the number and the place of its refusal, from the type-byte on; or its items' summary and its
-// bytes past the type-byte.
+// What an object comes to: its refusal, the place from the type-byte on; or its items' summary and its bytes past the type-byte.
 pub enum Object {
-    Bad(usize, usize),
+    Bad(Fault),
     Got(Summary, usize),
 }
 
@@ -24,7 +27,7 @@ pub enum Object {
 fn ustruc_fault(a: Summary) -> usize
     ensures { λ r. ⌜ r ≡ ustrucFault a ⌝ }
 {
-    if a.mix == SEVERAL { 8 } else { 0 }
+    if a.mix == SEVERAL { SEVERAL_KINDS } else { 0 }
 }
 
 // Of an EDT: its first element is an INT or a string and its second an INT.
@@ -32,7 +35,7 @@ fn edt_fault(a: Summary) -> usize
     ensures { λ r. ⌜ r ≡ edtFault a ⌝ }
 {
     if a.second != INT {
-        return 9;
+        return BAD_EDT;
     }
     if a.first == INT {
         return 0;
@@ -40,7 +43,7 @@ fn edt_fault(a: Summary) -> usize
     if a.first == STRING {
         return 0;
     }
-    9
+    BAD_EDT
 }
 
 // The number with which a container of the type-byte C2, C5 or C3 is refused for the kinds of its elements, or 0.
@@ -60,7 +63,7 @@ pub fn fault_of(b: u8, a: Summary) -> usize
 pub fn text_fault(b: u8) -> usize
     ensures { λ r. ⌜ r ≡ textFault b ⌝ }
 {
-    if is_edt(b) { 9 } else { 0 }
+    if is_edt(b) { BAD_EDT } else { 0 }
 }
 
 // The item that such a container is.
@@ -78,7 +81,7 @@ fn closed_by(fault: usize, one: Summary, past: usize) -> Object
     ensures { λ r. ⌜ r ≡ closedBy fault one past ⌝ }
 {
     if fault != 0 {
-        return Object::Bad(fault, 0);
+        return Object::Bad(at(0, fault));
     }
     Object::Got(one, past)
 }

@@ -16,6 +16,9 @@ use closing::closed;
 use closing::fault_of;
 use closing::group_of;
 use closing::text_fault;
+use format::fault::Fault;
+use format::fault::at;
+use format::fault::further;
 use format::tree::is_non_atomic;
 use stretch::all_chars;
 use stretch::leap_from;
@@ -32,9 +35,9 @@ use wire::head::head_of;
 use wire::short::is_string;
 use wire::short::short_size;
 
-// What a run of objects comes to: the number and the place of its refusal, or its items' summary.
+// What a run of objects comes to: its refusal, or its items' summary.
 pub enum Scanned {
-    Refused(usize, usize),
+    Refused(Fault),
     Accepted(Summary),
 }
 
@@ -56,7 +59,7 @@ fn scan_run(depth: usize, s: &[u8]) -> Scanned
                 let end = i + 2 + n;
                 let r = scan_short(depth, b, &s[i + 2..end]);
                 match r {
-                    Scanned::Refused(number, place) => return Scanned::Refused(number, i + place),
+                    Scanned::Refused(f) => return Scanned::Refused(further(i, f)),
                     Scanned::Accepted(one) => {
                         sum = plus(sum, one);
                         i = end;
@@ -74,7 +77,7 @@ fn scan_run(depth: usize, s: &[u8]) -> Scanned
         }
         let o = scan_object(depth, b, &s[behind..]);
         match o {
-            Object::Bad(number, place) => return Scanned::Refused(number, i + place),
+            Object::Bad(f) => return Scanned::Refused(further(i, f)),
             Object::Got(one, past) => {
                 sum = plus(sum, one);
                 i += 1 + past;
@@ -97,17 +100,17 @@ fn scan_short(depth: usize, b: u8, c: &[u8]) -> Scanned
     if all_chars(c) {
         let fault = text_fault(b);
         if fault != 0 {
-            return Scanned::Refused(fault, 0);
+            return Scanned::Refused(at(0, fault));
         }
         return Scanned::Accepted(text_of(n + 1));
     }
     let r = scan_run(depth + 1, c);
     match r {
-        Scanned::Refused(number, place) => Scanned::Refused(number, 2 + place),
+        Scanned::Refused(f) => Scanned::Refused(further(2, f)),
         Scanned::Accepted(sum) => {
             let fault = fault_of(b, sum);
             if fault != 0 {
-                return Scanned::Refused(fault, 0);
+                return Scanned::Refused(at(0, fault));
             }
             Scanned::Accepted(group_of(b, sum))
         }
@@ -121,7 +124,7 @@ fn scan_object(depth: usize, b: u8, s: &[u8]) -> Object
 {
     let h = head_of(depth, b, s);
     match h {
-        Head::Stop(number, place) => Object::Bad(number, place),
+        Head::Stop(f) => Object::Bad(f),
         Head::Gap => Object::Got(nothing(), 0),
         Head::Row(kind, _, past) => Object::Got(one_of(kind as usize, 1, 0), past),
         Head::Short(n, _, past) => Object::Got(bits_of(n), past),
@@ -131,7 +134,7 @@ fn scan_object(depth: usize, b: u8, s: &[u8]) -> Object
             let e = a + n;
             let r = scan_run(depth + 1, &s[a..e]);
             match r {
-                Scanned::Refused(number, place) => Object::Bad(number, 1 + a + place),
+                Scanned::Refused(f) => Object::Bad(further(1 + a, f)),
                 Scanned::Accepted(sum) => closed(w, sum, e),
             }
         }

@@ -13,7 +13,8 @@ use Rattle.format.specs.declared.Class.{Class}
 use Rattle.format.specs.declared.Class.the-variants as C
 use Rattle.format.specs.Numbers.{Bytes, val, twos}
 use Rattle.format.specs.Bits.{isOne, spread, bytesFor}
-use Rattle.format.specs.Refusals.{at}
+use Rattle.format.specs.declared.fault.Fault.{Fault}
+use Rattle.format.specs.Refusals.{at, wants}
 use Rattle.format.specs.Items.{Leaf, int, bits, char, bool, empty, xtra, one, leafKind}
 use Rattle.format.specs.Classes.{classOf}
 use Rattle.format.specs.Tables.{leafA, leafB, leafWords}
@@ -75,7 +76,11 @@ pub padding-gap : (d b : ℕ) (s : List ℕ) → HeadIs s Gap (O.headBy C.Paddin
 unfolding O.headBy
 padding-gap d b s = refl
 
-pub reserved-stop : (d b : ℕ) (s : List ℕ) → HeadIs s (Stop 4 0) (O.headBy C.Reserved d b s)
+-- a refusal that the code has made is that of the meaning
+pub stopped : (s : List ℕ) (h : O.Head) (x y : Fault) → x ≡ y → HeadIs s (Stop y) h → HeadIs s (Stop x) h
+stopped s h x y e p = p ∙ ap O.stop (sym e)
+
+pub reserved-stop : (d b : ℕ) (s : List ℕ) → HeadIs s (Stop (at 0 4)) (O.headBy C.Reserved d b s)
 unfolding O.headBy
 reserved-stop d b s = refl
 
@@ -89,17 +94,18 @@ unfolding O.past
 past-inner zero n = absurd (n refl)
 past-inner (suc d) n = refl
 
-fixed-stop : (d k : ℕ) (s : List ℕ) (f : List ℕ → O.Head) (n : ℕ) → length s < k → n ≡ O.past d → O.fixed d k s f ≡ O.stop (at 0 n)
+fixed-stop : (d k : ℕ) (s : List ℕ) (f : List ℕ → O.Head) (x : Fault) → length s < k → x ≡ wants 0 (O.past d) (k - length s) → O.fixed d k s f ≡ O.stop x
 unfolding O.fixed
-fixed-stop d k s f n h e = ifLt-yes (length s) k _ _ h ∙ ap (λ m. O.stop (at 0 m)) (sym e)
+fixed-stop d k s f x h e = ifLt-yes (length s) k _ _ h ∙ ap O.stop (sym e)
 
 fixed-go : (d k : ℕ) (s : List ℕ) (f : List ℕ → O.Head) → k ≤ length s → O.fixed d k s f ≡ f (take k s)
 unfolding O.fixed
 fixed-go d k s f h = ifLt-no (length s) k _ _ h
 
-pub linteger-stop : (d b k n : ℕ) (s : List ℕ) → k ≡ O.following b → length s < k → n ≡ O.past d → HeadIs s (Stop n 0) (O.headBy C.Linteger d b s)
+pub linteger-stop : (d b k : ℕ) (s : List ℕ) (x : Fault) → k ≡ O.following b → length s < k → x ≡ wants 0 (O.past d) (k - length s)
+    → HeadIs s (Stop x) (O.headBy C.Linteger d b s)
 unfolding O.headBy
-linteger-stop d b k n s ek h e = fixed-stop d (O.following b) s O.lintegerHead n (rw ek at h) e
+linteger-stop d b k s x ek h e = fixed-stop d (O.following b) s O.lintegerHead x (rw ek at h) (rw ek at e)
 
 -- the item of an LINTEGER whose bytes are there, and its row
 abbrev pub linteger-leaf : ℕ → List ℕ → Leaf
@@ -117,9 +123,10 @@ linteger-is k v s ev = int-row (O.integer (take k s)) v (sym ev)
 pub linteger-row : (d b k v : ℕ) (s : List ℕ) → k ≡ O.following b → k ≤ length s → v ≡ twos 8 (O.integer (take k s)) → HeadIs s (Row 1 v k) (O.headBy C.Linteger d b s)
 linteger-row d b k v s ek h ev = (linteger-leaf k s, linteger-head d b k s ek h, linteger-is k v s ev)
 
-pub sbitstr-stop : (d b k n : ℕ) (s : List ℕ) → k ≡ O.following b → length s < k → n ≡ O.past d → HeadIs s (Stop n 0) (O.headBy C.Sbitstr d b s)
+pub sbitstr-stop : (d b k : ℕ) (s : List ℕ) (x : Fault) → k ≡ O.following b → length s < k → x ≡ wants 0 (O.past d) (k - length s)
+    → HeadIs s (Stop x) (O.headBy C.Sbitstr d b s)
 unfolding O.headBy
-sbitstr-stop d b k n s ek h e = fixed-stop d (O.following b) s O.sbitstrHead n (rw ek at h) e
+sbitstr-stop d b k s x ek h e = fixed-stop d (O.following b) s O.sbitstrHead x (rw ek at h) (rw ek at e)
 
 sbitstr-go : (d b k : ℕ) (s : List ℕ) → k ≡ O.following b → k ≤ length s → O.headBy C.Sbitstr d b s ≡ O.sbitstrHead (take k s)
 unfolding O.headBy
@@ -135,7 +142,7 @@ unfolding O.sbitstrHead
 sbitstr-bits [] h n = absurd (omega arith)
 sbitstr-bits (a ∷ p) h n = ifEq-no a 0 _ _ n
 
-pub sbitstr-bad : (d b k : ℕ) (s : List ℕ) → k ≡ O.following b → k ≤ length s → getD s 0 0 ≡ 0 → HeadIs s (Stop 6 0) (O.headBy C.Sbitstr d b s)
+pub sbitstr-bad : (d b k : ℕ) (s : List ℕ) → k ≡ O.following b → k ≤ length s → getD s 0 0 ≡ 0 → HeadIs s (Stop (at 0 6)) (O.headBy C.Sbitstr d b s)
 sbitstr-bad d b k s ek h e =
     sbitstr-go d b k s ek h ∙ sbitstr-zero (take k s) (getD-take k s 0 0 (omega (arith, following-range b .0)) ∙ e)
 
@@ -151,26 +158,26 @@ sbitstr-short d b k n v w s hb ek h z en ev w0 w1 =
     )
 
 -- ---- a length or a count
-pub count-absent : (why h : ℕ) (s : List ℕ) → O.leading s ≡ O.absent → CountedIs why h s (Wrong why 0)
+pub count-absent : (why h : ℕ) (s : List ℕ) (x : Fault) → x ≡ at 0 why → O.leading s ≡ O.absent → CountedIs why h s (Wrong x)
 unfolding O.counted
-count-absent why h s e = λ f. rw e refl
+count-absent why h s x ex e = λ f. rw e (ap O.stop (sym ex))
 
-pub count-short : (why h p : ℕ) (s : List ℕ) → O.leading s ≡ O.short p → CountedIs why h s (Wrong 3 (1 + h + p))
+pub count-short : (why h p k : ℕ) (s : List ℕ) (x : Fault) → x ≡ wants (1 + h + p) 3 k → O.leading s ≡ O.short p k → CountedIs why h s (Wrong x)
 unfolding O.counted
-count-short why h p s e = λ f. rw e refl
+count-short why h p k s x ex e = λ f. rw e (ap O.stop (sym ex))
 
-pub count-negative : (why h m u : ℕ) (s : List ℕ) → O.leading s ≡ O.found (negsuc m) u → CountedIs why h s (Wrong why 0)
+pub count-negative : (why h m u : ℕ) (s : List ℕ) (x : Fault) → x ≡ at 0 why → O.leading s ≡ O.found (negsuc m) u → CountedIs why h s (Wrong x)
 unfolding O.counted
-count-negative why h m u s e = λ f. rw e refl
+count-negative why h m u s x ex e = λ f. rw e (ap O.stop (sym ex))
 
 pub count-right : (why h n u : ℕ) (s : List ℕ) → O.leading s ≡ O.found (pos n) u → n < 2 ^ 63 → u ≤ length s → CountedIs why h s (Right n u)
 unfolding O.counted
 count-right why h n u s e g l = (λ f. rw e refl, l, g)
 
 -- ---- LBITSTR
-pub lbitstr-past : (d n : ℕ) (s : List ℕ) → n ≡ O.past d → ExtentIs s Past → HeadIs s (Stop n 0) (O.headBy C.Lbitstr d 0xc1 s)
+pub lbitstr-past : (d k : ℕ) (s : List ℕ) (x : Fault) → x ≡ wants 0 (O.past d) k → ExtentIs s (Past k) → HeadIs s (Stop x) (O.headBy C.Lbitstr d 0xc1 s)
 unfolding O.headBy O.lbitstrHead
-lbitstr-past d n s e x = x d _ ∙ ap (λ m. O.stop (at 0 m)) (sym e)
+lbitstr-past d k s x ex e = e d _ ∙ ap O.stop (sym ex)
 
 lbitstr-in : (d h n : ℕ) (s : List ℕ) → ExtentIs s (Within h n)
     → O.headBy C.Lbitstr d 0xc1 s ≡ O.counted 6 h (O.lbitstr (O.contents s h n) (h + n)) (O.leading (O.contents s h n))
@@ -185,9 +192,9 @@ lent s h n = middle-part s h n
 pub lent-length : (s : List ℕ) (h n : ℕ) → (length (take (h + n - h) (drop h s)) ≤ n) × (h ≤ length s → h + length (take (h + n - h) (drop h s)) ≤ length s)
 lent-length s h n = (simp (length-take, length-drop) (omega arith), λ l. simp (length-take, length-drop) (omega arith))
 
-pub lbitstr-wrong : (d h n m p : ℕ) (s : List ℕ) → ExtentIs s (Within h n) → CountedIs 6 h (take (h + n - h) (drop h s)) (Wrong m p)
-    → HeadIs s (Stop m p) (O.headBy C.Lbitstr d 0xc1 s)
-lbitstr-wrong d h n m p s x c = lbitstr-in d h n s x ∙ subst (λ l. CountedIs 6 h l (Wrong m p)) (lent s h n) c _
+pub lbitstr-wrong : (d h n : ℕ) (s : List ℕ) (f : Fault) → ExtentIs s (Within h n) → CountedIs 6 h (take (h + n - h) (drop h s)) (Wrong f)
+    → HeadIs s (Stop f) (O.headBy C.Lbitstr d 0xc1 s)
+lbitstr-wrong d h n s f x c = lbitstr-in d h n s x ∙ subst (λ l. CountedIs 6 h l (Wrong f)) (lent s h n) c _
 
 contents-long : (s : List ℕ) (h n : ℕ) → h + n ≤ length s → length (O.contents s h n) ≡ n
 unfolding O.contents
@@ -219,43 +226,43 @@ lbitstr-right d h n k u s x c0 =
     (λ q. rw (ifEq-no (n - u) (bytesFor k)) (e ∙ lbitstr-odd (O.contents s h n) (h + n) k u (λ z. q (sym el ∙ z))))
 
 -- ---- containers
-pub contents-deep : (d : ℕ) (s : List ℕ) → 16 ≤ d → ContainedIs d s (Outside 5)
+pub contents-deep : (d : ℕ) (s : List ℕ) (x : Fault) → x ≡ at 0 5 → 16 ≤ d → ContainedIs d s (Outside x)
 unfolding O.container
-contents-deep d s h = λ f. ifLt-no d 16 _ _ h
+contents-deep d s x e h = λ f. ifLt-no d 16 _ _ h ∙ ap O.stop (sym e)
 
-pub contents-past : (d n : ℕ) (s : List ℕ) → d < 16 → n ≡ O.past d → ExtentIs s Past → ContainedIs d s (Outside n)
+pub contents-past : (d k : ℕ) (s : List ℕ) (x : Fault) → x ≡ wants 0 (O.past d) k → d < 16 → ExtentIs s (Past k) → ContainedIs d s (Outside x)
 unfolding O.container
-contents-past d n s h e x = λ f. ifLt-yes d 16 _ _ h ∙ x d f ∙ ap (λ m. O.stop (at 0 m)) (sym e)
+contents-past d k s x ex h e = λ f. ifLt-yes d 16 _ _ h ∙ e d f ∙ ap O.stop (sym ex)
 
 pub contents-in : (d h n : ℕ) (s : List ℕ) → d < 16 → ExtentIs s (Within h n) → ContainedIs d s (Inside h n)
 unfolding O.container
 contents-in d h n s l x = (λ f. ifLt-yes d 16 _ _ l ∙ x .0 d f, x .1)
 
-pub string-stop : (d n : ℕ) (s : List ℕ) → ContainedIs d s (Outside n) → HeadIs s (Stop n 0) (O.headBy C.String d 0xc6 s)
+pub string-stop : (d : ℕ) (s : List ℕ) (f : Fault) → ContainedIs d s (Outside f) → HeadIs s (Stop f) (O.headBy C.String d 0xc6 s)
 unfolding O.headBy O.stringHead
-string-stop d n s x = x _
+string-stop d s f x = x _
 
 pub string-text : (d h n : ℕ) (s : List ℕ) → ContainedIs d s (Inside h n) → HeadIs s (Text h n) (O.headBy C.String d 0xc6 s)
 unfolding O.headBy O.stringHead
 string-text d h n s x = (x .0 _, x .1)
 
-pub group-stop : (w : Wrap) (d n : ℕ) (s : List ℕ) → ContainedIs d s (Outside n) → HeadIs s (Stop n 0) (O.groupHead (wrapOf w) d s)
+pub group-stop : (w : Wrap) (d : ℕ) (s : List ℕ) (f : Fault) → ContainedIs d s (Outside f) → HeadIs s (Stop f) (O.groupHead (wrapOf w) d s)
 unfolding O.groupHead
-group-stop w d n s x = x _
+group-stop w d s f x = x _
 
 pub group-open : (w : Wrap) (d h n : ℕ) (s : List ℕ) → ContainedIs d s (Inside h n) → HeadIs s (Open w h n) (O.groupHead (wrapOf w) d s)
 unfolding O.groupHead
 group-open w d h n s x = (x .0 _, x .1)
 
 -- ---- REPEAT
-pub repeat-outer : (s : List ℕ) → HeadIs s (Stop 7 0) (O.headBy C.Repeat 0 0xc4 s)
+pub repeat-outer : (s : List ℕ) → HeadIs s (Stop (at 0 7)) (O.headBy C.Repeat 0 0xc4 s)
 unfolding O.headBy O.repeatHead
 repeat-outer s = refl
 
-pub repeat-stop : (d n : ℕ) (s : List ℕ) → d ≢ 0 → ContainedIs d s (Outside n) → HeadIs s (Stop n 0) (O.headBy C.Repeat d 0xc4 s)
+pub repeat-stop : (d : ℕ) (s : List ℕ) (f : Fault) → d ≢ 0 → ContainedIs d s (Outside f) → HeadIs s (Stop f) (O.headBy C.Repeat d 0xc4 s)
 unfolding O.headBy O.repeatHead
-repeat-stop zero n s z x = absurd (z refl)
-repeat-stop (suc d) n s z x = x _
+repeat-stop zero s f z x = absurd (z refl)
+repeat-stop (suc d) s f z x = x _
 
 repeat-in : (d h n : ℕ) (s : List ℕ) → d ≢ 0 → ContainedIs d s (Inside h n)
     → O.headBy C.Repeat d 0xc4 s ≡ O.counted 7 h (λ k u. O.opens (O.repeated k) (h + u) (n - u)) (O.leading (O.contents s h n))
@@ -263,9 +270,9 @@ unfolding O.headBy O.repeatHead
 repeat-in zero h n s z x = absurd (z refl)
 repeat-in (suc d) h n s z x = x .0 _
 
-pub repeat-wrong : (d h n m p : ℕ) (s : List ℕ) → d ≢ 0 → ContainedIs d s (Inside h n) → CountedIs 7 h (take (h + n - h) (drop h s)) (Wrong m p)
-    → HeadIs s (Stop m p) (O.headBy C.Repeat d 0xc4 s)
-repeat-wrong d h n m p s z x c = repeat-in d h n s z x ∙ subst (λ l. CountedIs 7 h l (Wrong m p)) (lent s h n) c _
+pub repeat-wrong : (d h n : ℕ) (s : List ℕ) (f : Fault) → d ≢ 0 → ContainedIs d s (Inside h n) → CountedIs 7 h (take (h + n - h) (drop h s)) (Wrong f)
+    → HeadIs s (Stop f) (O.headBy C.Repeat d 0xc4 s)
+repeat-wrong d h n s f z x c = repeat-in d h n s z x ∙ subst (λ l. CountedIs 7 h l (Wrong f)) (lent s h n) c _
 
 pub repeat-open : (d h n k u : ℕ) (s : List ℕ) → d ≢ 0 → ContainedIs d s (Inside h n) → CountedIs 7 h (take (h + n - h) (drop h s)) (Right k u)
     → HeadIs s (Open (Rattle.wire.specs.declared.head.Wrap.the-variants.Repeat k) (h + u) (n - u)) (O.headBy C.Repeat d 0xc4 s)

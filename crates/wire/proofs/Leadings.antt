@@ -23,13 +23,13 @@ use Rattle.wire.specs.Heads.{LeadingIs, ahead, Unpadded, lintegerAt}
 ahead-later : (i : ℕ) (l : O.Leading) → ahead i (O.later l) ≡ ahead (suc i) l
 unfolding ahead O.later
 ahead-later i O.absent = refl
-ahead-later i (O.short p) = ap O.short (omega arith)
+ahead-later i (O.short p k) = ap (λ q. O.short q k) (omega arith)
 ahead-later i (O.found z u) = ap (O.found z) (omega arith)
 
 ahead-none : (l : O.Leading) → ahead 0 l ≡ l
 unfolding ahead
 ahead-none O.absent = refl
-ahead-none (O.short p) = ap O.short (omega arith)
+ahead-none (O.short p k) = ap (λ q. O.short q k) (omega arith)
 ahead-none (O.found z u) = ap (O.found z) (omega arith)
 
 pub skip-none : (s : List ℕ) → O.leading s ≡ ahead 0 (O.leading (drop 0 s))
@@ -64,9 +64,10 @@ leading-small s i b z ez h eb ec u =
     let e : b % 64 ≡ b - 128 = omega (arith, r .0, r .1) in
     (at-class s i b C.Sinteger h eb ec u ∙ ap (λ y. O.found y (i + 1)) (ap pos (sym e) ∙ sym ez), omega arith)
 
-pub linteger-short : (s : List ℕ) (i b k : ℕ) → k ≡ O.following b → length s - (i + 1) < k → Short i ≡ lintegerAt s i b
+pub linteger-short : (s : List ℕ) (i b k : ℕ) → k ≡ O.following b → length s - (i + 1) < k → Short i (k - (length s - (i + 1))) ≡ lintegerAt s i b
 unfolding lintegerAt
-linteger-short s i b k ek l = sym (ifLt-yes (length s - (i + 1)) (O.following b) _ _ (rw ek at l))
+linteger-short s i b k ek l =
+    ap (λ j. Short i (j - (length s - (i + 1)))) ek ∙ sym (ifLt-yes (length s - (i + 1)) (O.following b) _ _ (rw ek at l))
 
 pub linteger-found : (s : List ℕ) (i b k : ℕ) (z : ℤ) → k ≡ O.following b → k ≤ length s - (i + 1)
     → z ≡ O.integer (take k (take (length s - (i + 1)) (drop (i + 1) s))) → Found z (i + 1 + k) ≡ lintegerAt s i b
@@ -83,8 +84,11 @@ leading-long s i b h eb ec u =
     split (length s - (i + 1)) (O.following b)
     (λ l.
     let m : length (drop (suc i) s) < O.following b = omega arith in
-    rw (ifLt-yes (length s - (i + 1)) (O.following b))
-    (rw (ifLt-yes (length (drop (suc i) s)) (O.following b)) at e ∙ ap O.short (let z : i + 0 ≡ i = omega arith in z), h))
+    rw (ifLt-yes (length s - (i + 1)) (O.following b)) (
+      rw (ifLt-yes (length (drop (suc i) s)) (O.following b)) at e ∙ ap (λ q. O.short q (O.following b - length (drop (suc i) s))) (let z : i + 0 ≡ i = omega arith in z)
+          ∙ ap (λ k. O.short i (O.following b - k)) n,
+      h,
+    ))
     (λ g.
     let m : O.following b ≤ length (drop (suc i) s) = omega arith in
     rw (ifLt-no (length s - (i + 1)) (O.following b), add-one i)

@@ -25,13 +25,13 @@ use Rattle.wire.specs.declared.head.Head.the-variants.{Stop, Gap, Row, S
 
 abbrev pub LeadingIs : List ℕ → Leading → Type 0
 LeadingIs s L.Absent = O.leading s ≡ O.absent
-LeadingIs s (L.Short p) = (O.leading s ≡ O.short p) × (p < length s)
+LeadingIs s (L.Short p k) = (O.leading s ≡ O.short p k) × (p < length s)
 LeadingIs s (L.Found z u) = (O.leading s ≡ O.found z u) × (u ≤ length s)
 
 -- what is found i bytes further on
 unfoldable pub ahead : ℕ → O.Leading → O.Leading
 ahead i O.absent = O.absent
-ahead i (O.short p) = O.short (i + p)
+ahead i (O.short p k) = O.short (i + p) k
 ahead i (O.found z u) = O.found z (i + u)
 
 -- padding up to i, and none there
@@ -44,16 +44,16 @@ pub record Unpadded (s : List ℕ) (i : ℕ) : Type 0 where
 unfoldable pub lintegerAt : List ℕ → ℕ → ℕ → Leading
 unfolding ifLt O.following O.integer
 lintegerAt s i b =
-    ifLt (length s - (i + 1)) (O.following b) (L.Short i) (L.Found (O.integer (take (O.following b) (drop (i + 1) s))) (i + 1 + O.following b))
+    ifLt (length s - (i + 1)) (O.following b) (L.Short i (O.following b - (length s - (i + 1)))) (L.Found (O.integer (take (O.following b) (drop (i + 1) s))) (i + 1 + O.following b))
 
 -- a container's contents, whatever it makes of them
 abbrev pub ContainedIs : ℕ → List ℕ → Contained → Type 0
-ContainedIs d s (Outside n) = (f : ℕ → ℕ → O.Head) → O.container d (O.sized d s f) ≡ O.stop (at 0 n)
+ContainedIs d s (Outside x) = (f : ℕ → ℕ → O.Head) → O.container d (O.sized d s f) ≡ O.stop x
 ContainedIs d s (Inside h n) = ((f : ℕ → ℕ → O.Head) → O.container d (O.sized d s f) ≡ f h n) × (h + n ≤ length s)
 
 -- the length or count at the front of the contents s, which start at h, whatever is made of it
 abbrev pub CountedIs : ℕ → ℕ → List ℕ → Counted → Type 0
-CountedIs why h s (Wrong n p) = (f : ℕ → ℕ → O.Head) → O.counted why h f (O.leading s) ≡ O.stop (at p n)
+CountedIs why h s (Wrong x) = (f : ℕ → ℕ → O.Head) → O.counted why h f (O.leading s) ≡ O.stop x
 CountedIs why h s (Right n u) = ((f : ℕ → ℕ → O.Head) → O.counted why h f (O.leading s) ≡ f n u) × (u ≤ length s) × (n < 2 ^ 63)
 
 unfoldable pub wrapOf : Wrap → O.Wrap
@@ -64,7 +64,7 @@ wrapOf (Repeat k) = O.repeated k
 
 unfoldable pub longBits : ℕ → ℕ → ℕ → ℕ → Head
 unfolding ifEq bytesFor
-longBits h size n u = ifEq (size - u) (bytesFor n) (Long (h + u) n (h + size)) (Stop 6 0)
+longBits h size n u = ifEq (size - u) (bytesFor n) (Long (h + u) n (h + size)) (Stop (at 0 6))
 
 -- an item whose row is k, 0 and v, with no data words
 pub record IsRow (l : Leaf) (k v : ℕ) : Type 0 where
@@ -91,7 +91,7 @@ bitsFrom s a n = take n (spread 8 (take (bytesFor n) (drop a s)))
 
 -- what the code answers about an object is what its head means
 abbrev pub HeadIs : List ℕ → Head → O.Head → Type 0
-HeadIs s (Stop n p) h = h ≡ O.stop (at p n)
+HeadIs s (Stop x) h = h ≡ O.stop x
 HeadIs s Gap h = h ≡ O.gives end 0
 HeadIs s (Row k v u) h = (l : Leaf) × (h ≡ O.gives (one l) u) × IsRow l k v
 HeadIs s (Short n w u) h = (bs : List Bool) × (h ≡ O.gives (one (bits bs)) u) × IsShort bs n w

@@ -4,6 +4,7 @@ ghost use mathlib.Core.Path.{_≡_};
 ghost use Prim.Native.Nat.{_+_, _*_, _%_, _^_, _≤_, _<_, _-_};
 ghost use lib.ListN.{length};
 ghost use Rattle.format.specs.declared.Class.the-variants.{Linteger, Sbitstr, Lbitstr, String, Repeat};
+ghost use Rattle.format.specs.Refusals as R;
 ghost use Rattle.format.specs.Objects.{past, headBy, headOf, groupHead};
 ghost use Rattle.wire.specs.Heads.{CountedIs, ContainedIs, HeadIs, wrapOf, longBits};
 use super::integer::Leading;
@@ -14,6 +15,15 @@ use super::integer::number;
 use super::size::Extent;
 use super::size::extent_of;
 use format::Class;
+use format::fault::BAD_BITS;
+use format::fault::BAD_REPEAT;
+use format::fault::Fault;
+use format::fault::PAST_ENCLOSING;
+use format::fault::PAST_INPUT;
+use format::fault::TOO_DEEP;
+use format::fault::UNASSIGNED;
+use format::fault::at;
+use format::fault::wants;
 use format::signed::word_of;
 use format::tree::class_of;
 use format::tree::ones_of;
@@ -26,7 +36,7 @@ pub enum Wrap {
     Repeat(usize),
 }
 
-// Stop: the number of a refusal, and its place from the type-byte on.
+// Stop: refused; the place is from the type-byte on.
 // Gap: padding.
 // Row: an item with no data words and no elements, as its row's kind and last word.
 // Short: a BITS of at most 63 bits, how many, and its data word.
@@ -35,7 +45,7 @@ pub enum Wrap {
 // Open: a container: how it closes, where past the type-byte its contents start, and their size.
 // The last number of Row, Short and Long is that of the object's bytes past the type-byte.
 pub enum Head {
-    Stop(usize, usize),
+    Stop(Fault),
     Gap,
     Row(u64, u64, usize),
     Short(usize, u64, usize),
@@ -44,22 +54,26 @@ pub enum Head {
     Open(Wrap, usize, usize),
 }
 
-// A container's contents, or the number with which the container is refused.
+// A container's contents, or its refusal.
 enum Contained {
-    Outside(usize),
+    Outside(Fault),
     Inside(usize, usize),
 }
 
-// A length or count with the bytes up to its end, or the number and the place of the refusal.
+// A length or count with the bytes up to its end, or the refusal.
 enum Counted {
-    Wrong(usize, usize),
+    Wrong(Fault),
     Right(usize, usize),
 }
 
-fn past_of(depth: usize) -> usize
-    ensures { λ r. ⌜ r ≡ past depth ⌝ }
+// The refusal of an object for which k bytes are missing to the end that it passes.
+fn past_end(depth: usize, k: usize) -> Fault
+    ensures { λ r. ⌜ r ≡ R.wants 0 (past depth) k ⌝ }
 {
-    if depth == 0 { 2 } else { 3 }
+    if depth == 0 {
+        return wants(0, PAST_INPUT, k);
+    }
+    wants(0, PAST_ENCLOSING, k)
 }
 
 fn linteger(depth: usize, b: u8, s: &[u8]) -> Head
@@ -67,7 +81,7 @@ fn linteger(depth: usize, b: u8, s: &[u8]) -> Head
 {
     let k = following_of(b);
     if s.len() < k {
-        return Head::Stop(past_of(depth), 0);
+        return Head::Stop(past_end(depth, k - s.len()));
     }
     Head::Row(1, word_of(integer_of(s, k)), k)
 }
@@ -89,11 +103,11 @@ fn sbitstr(depth: usize, b: u8, s: &[u8]) -> Head
 {
     let k = following_of(b);
     if s.len() < k {
-        return Head::Stop(past_of(depth), 0);
+        return Head::Stop(past_end(depth, k - s.len()));
     }
     let first = s[0];
     if first == 0 {
-        return Head::Stop(6, 0);
+        return Head::Stop(at(0, BAD_BITS));
     }
     let zeros = ones_of(!first) as usize;
     let n = 8 * k - 1 - zeros;
@@ -107,11 +121,11 @@ fn count_of(why: usize, h: usize, c: &[u8]) -> Counted
 {
     let l = leading_of(c);
     match l {
-        Leading::Absent => Counted::Wrong(why, 0),
-        Leading::Short(p) => Counted::Wrong(3, 1 + h + p),
+        Leading::Absent => Counted::Wrong(at(0, why)),
+        Leading::Short(p, k) => Counted::Wrong(wants(1 + h + p, PAST_ENCLOSING, k)),
         Leading::Found(z, u) => {
             if z < 0 {
-                return Counted::Wrong(why, 0);
+                return Counted::Wrong(at(0, why));
             }
             Counted::Right(z as usize, u)
         }
@@ -124,7 +138,7 @@ fn long_bits(h: usize, size: usize, n: usize, u: usize) -> Head
     ensures { λ r. ⌜ r ≡ longBits h size n u ⌝ }
 {
     if size - u != (n + 7) / 8 {
-        return Head::Stop(6, 0);
+        return Head::Stop(at(0, BAD_BITS));
     }
     Head::Long(h + u, n, h + size)
 }
@@ -135,12 +149,12 @@ fn lbitstr(depth: usize, s: &[u8]) -> Head
 {
     let e = extent_of(s);
     match e {
-        Extent::Past => Head::Stop(past_of(depth), 0),
+        Extent::Past(k) => Head::Stop(past_end(depth, k)),
         Extent::Within(h, size) => {
             let end = h + size;
-            let c = count_of(6, h, &s[h..end]);
+            let c = count_of(BAD_BITS, h, &s[h..end]);
             match c {
-                Counted::Wrong(number, place) => Head::Stop(number, place),
+                Counted::Wrong(f) => Head::Stop(f),
                 Counted::Right(n, u) => long_bits(h, size, n, u),
             }
         }
@@ -152,11 +166,11 @@ fn contents_of(depth: usize, s: &[u8]) -> Contained
     ensures { λ r. ⌜ ContainedIs depth (now (s .entry)) r ⌝ }
 {
     if depth >= 16 {
-        return Contained::Outside(5);
+        return Contained::Outside(at(0, TOO_DEEP));
     }
     let e = extent_of(s);
     match e {
-        Extent::Past => Contained::Outside(past_of(depth)),
+        Extent::Past(k) => Contained::Outside(past_end(depth, k)),
         Extent::Within(h, size) => Contained::Inside(h, size),
     }
 }
@@ -167,7 +181,7 @@ fn string(depth: usize, s: &[u8]) -> Head
 {
     let c = contents_of(depth, s);
     match c {
-        Contained::Outside(number) => Head::Stop(number, 0),
+        Contained::Outside(f) => Head::Stop(f),
         Contained::Inside(h, size) => Head::Text(h, size),
     }
 }
@@ -178,7 +192,7 @@ fn group(w: Wrap, depth: usize, s: &[u8]) -> Head
 {
     let c = contents_of(depth, s);
     match c {
-        Contained::Outside(number) => Head::Stop(number, 0),
+        Contained::Outside(f) => Head::Stop(f),
         Contained::Inside(h, size) => Head::Open(w, h, size),
     }
 }
@@ -188,16 +202,16 @@ fn repeat(depth: usize, s: &[u8]) -> Head
     ensures { λ r. ⌜ HeadIs (now (s .entry)) r (headBy Repeat depth 0xc4 (now (s .entry))) ⌝ }
 {
     if depth == 0 {
-        return Head::Stop(7, 0);
+        return Head::Stop(at(0, BAD_REPEAT));
     }
     let c = contents_of(depth, s);
     match c {
-        Contained::Outside(number) => Head::Stop(number, 0),
+        Contained::Outside(f) => Head::Stop(f),
         Contained::Inside(h, size) => {
             let end = h + size;
-            let k = count_of(7, h, &s[h..end]);
+            let k = count_of(BAD_REPEAT, h, &s[h..end]);
             match k {
-                Counted::Wrong(number, place) => Head::Stop(number, place),
+                Counted::Wrong(f) => Head::Stop(f),
                 Counted::Right(n, u) => Head::Open(Wrap::Repeat(n), h + u, size - u),
             }
         }
@@ -224,6 +238,6 @@ pub fn head_of(depth: usize, b: u8, s: &[u8]) -> Head
         Class::Bool => Head::Row(4, (b % 2) as u64, 0),
         Class::Empty => Head::Row(5, 0, 0),
         Class::Padding => Head::Gap,
-        Class::Reserved => Head::Stop(4, 0),
+        Class::Reserved => Head::Stop(at(0, UNASSIGNED)),
     }
 }

@@ -11,10 +11,11 @@ use format::Class;
 use format::signed::value_of;
 use format::tree::class_of;
 
-// The INT at the front of contents. Short: cut short at that place. Found: its value, and the bytes up to its end.
+// The INT at the front of contents. Short: cut short at that place, and how many of its bytes are missing. Found: its value, and
+// the bytes up to its end.
 pub enum Leading {
     Absent,
-    Short(usize),
+    Short(usize, usize),
     Found(i64, usize),
 }
 
@@ -137,8 +138,9 @@ fn linteger_at(s: &[u8], i: usize, b: u8) -> Leading
 {
     let k = following_of(b);
     let from = i + 1;
-    if s.len() - from < k {
-        return Leading::Short(i);
+    let there = s.len() - from;
+    if there < k {
+        return Leading::Short(i, k - there);
     }
     Leading::Found(integer_of(&s[from..], k), from + k)
 }

@@ -5,9 +5,9 @@ ghost use lib.ListN.{length, take, drop};
 ghost use Rattle.format.specs.Numbers.{val};
 ghost use Rattle.wire.specs.Extents.{ExtentIs, extentAt, longCount};
 
-// Past: size bytes or contents are wanting. Within: where past the type-byte the contents start, and their size.
+// Past: size bytes or contents are missing, and how many. Within: where past the type-byte the contents start, and their size.
 pub enum Extent {
-    Past,
+    Past(usize),
     Within(usize, usize),
 }
 
@@ -17,17 +17,17 @@ fn wide(x: u8) -> usize
     x as usize
 }
 
-// No size above this can lie within a message.
+// Twice what a message may have: from this size on 65,536 bytes or more are missing in any.
 fn capped(n: usize) -> usize
-    ensures { λ r. ⌜ r ≡ min n 65537 ⌝ }
+    ensures { λ r. ⌜ r ≡ min n 131072 ⌝ }
 {
-    if n <= 65537 { n } else { 65537 }
+    if n <= 131072 { n } else { 131072 }
 }
 
-// What the k size bytes behind the first one make, or 65537 where they make more.
+// What the k size bytes behind the first one make, or 131,072 where they make more.
 fn long_size(s: &[u8], k: usize) -> usize
     requires { ⌜ 1 + k ≤ length (now s) ⌝ }
-    ensures { λ r. ⌜ r ≡ min (val (take k (drop 1 (now (s .entry))))) 65537 ⌝ }
+    ensures { λ r. ⌜ r ≡ min (val (take k (drop 1 (now (s .entry))))) 131072 ⌝ }
 {
     let mut n: usize = 0;
     let mut i: usize = 0;
@@ -43,8 +43,9 @@ fn extent_at(s: &[u8], h: usize, n: usize) -> Extent
     requires { ⌜ h ≤ length (now s) ⌝ }
     ensures { λ r. ⌜ r ≡ extentAt (length (now (s .entry))) h n ⌝ }
 {
-    if s.len() - h < n {
-        return Extent::Past;
+    let there = s.len() - h;
+    if there < n {
+        return Extent::Past(n - there);
     }
     Extent::Within(h, n)
 }
@@ -55,7 +56,7 @@ pub fn extent_of(s: &[u8]) -> Extent
     ensures { λ r. ⌜ ExtentIs (now (s .entry)) r ⌝ }
 {
     if s.len() == 0 {
-        return Extent::Past;
+        return Extent::Past(1);
     }
     let b = s[0];
     if b == 0 {
@@ -65,8 +66,9 @@ pub fn extent_of(s: &[u8]) -> Extent
         return extent_at(s, 1, wide(b));
     }
     let k = long_count(b);
-    if s.len() - 1 < k {
-        return Extent::Past;
+    let there = s.len() - 1;
+    if there < k {
+        return Extent::Past(k - there);
     }
     let n = long_size(s, k);
     extent_at(s, 1 + k, n)

@@ -2,6 +2,7 @@
 
 use crate::lent;
 use crate::plain::items::{depth, Item};
+use crate::plain::messages::Refusal;
 use crate::plain::{forms, messages, tables};
 use second::{Normalising, Reading, Writing};
 
@@ -14,16 +15,18 @@ pub fn hex(bytes: &[u8]) -> String {
 /// Compares everything the program says of a message with the plain reading.
 pub fn of_message(message: &[u8]) {
     match messages::items(message) {
-        Err((number, place)) => refused(message, number, place),
+        Err(refusal) => refused(message, refusal),
         Ok(items) => accepted(message, &items),
     }
 }
 
-fn refused(message: &[u8], number: u64, place: u64) {
+fn refused(message: &[u8], refusal: Refusal) {
+    let (number, place, missing) = refusal;
     let expected = Reading {
         number,
         place,
         words: 0,
+        missing,
     };
     let (reading, _) = lent::read(message, 40);
     assert_eq!(reading, expected, "{}", hex(message));
@@ -33,6 +36,7 @@ fn refused(message: &[u8], number: u64, place: u64) {
         place,
         words: 0,
         length: 0,
+        missing,
     };
     assert_eq!(answer, expected, "{}", hex(message));
 }
@@ -44,6 +48,7 @@ fn accepted(message: &[u8], items: &[Item]) {
         number: 0,
         place: 0,
         words,
+        missing: 0,
     };
     let short = Reading {
         number: 11,
@@ -72,6 +77,7 @@ fn normalised(message: &[u8], table: &[u64], normal: &[u8]) {
         place: 0,
         words: table.len() as u64,
         length: if fits { normal.len() as u64 } else { 0 },
+        missing: 0,
     };
     let written = if fits { normal } else { &[] };
     let (answer, read, output) = lent::normalise(message, table.len() + 1, normal.len() + 3);

@@ -44,6 +44,7 @@ fn answer(number: u64, words: u64) -> Reading {
         number,
         place: 0,
         words,
+        missing: 0,
     }
 }
 
@@ -184,6 +185,7 @@ fn sixteen_deep_in_a_small_stack() {
         place: 0,
         words: 4 + 3 * 100 * 49,
         length: 100 * (16 * 4 + 2),
+        missing: 0,
     };
     assert_eq!(answer, expected);
 }

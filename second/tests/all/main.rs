@@ -8,6 +8,7 @@ mod hostile;
 mod item_notation;
 mod lent;
 mod makers;
+mod missing;
 mod notation;
 mod objects_within;
 mod plain;

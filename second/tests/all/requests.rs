@@ -4,17 +4,23 @@ use second::command::answer;
 use std::io::Write;
 use std::process::{Command, Stdio};
 
-const ANSWERS: [(&str, &str); 14] = [
+const ANSWERS: [(&str, &str); 16] = [
     (
         "read C203818283 20",
-        "number 0 place 0 words 16 stray 0 table 4 1 16 0 7 3 3 1 0 1 1 0 2 1 0 3",
+        "number 0 place 0 words 16 missing 0 stray 0 table 4 1 16 0 7 3 3 1 0 1 1 0 2 1 0 3",
     ),
     (
         "read c203818283 15",
-        "number 11 place 0 words 16 stray 0 table",
+        "number 11 place 0 words 16 missing 0 stray 0 table",
     ),
-    ("read C202E201 20", "number 3 place 2 words 0 stray 0 table"),
-    ("read - 4", "number 0 place 0 words 4 stray 0 table 0 0 4 0"),
+    (
+        "read C202E201 20",
+        "number 3 place 2 words 0 missing 1 stray 0 table",
+    ),
+    (
+        "read - 4",
+        "number 0 place 0 words 4 missing 0 stray 0 table 0 0 4 0",
+    ),
     (
         "write 9 1 1 7 0 1 0 64",
         "number 0 length 2 stray 0 output E140",
@@ -28,15 +34,23 @@ const ANSWERS: [(&str, &str); 14] = [
     ("length", "number 12 length 0"),
     (
         "normalise E10A 7 1",
-        "number 0 place 0 words 7 length 1 stray 0 table 1 1 7 0 1 0 10 output 8A",
+        "number 0 place 0 words 7 length 1 missing 0 stray 0 table 1 1 7 0 1 0 10 output 8A",
     ),
     (
         "normalise E10A 7 0",
-        "number 15 place 0 words 7 length 1 stray 0 table 1 1 7 0 1 0 10 output -",
+        "number 15 place 0 words 7 length 1 missing 0 stray 0 table 1 1 7 0 1 0 10 output -",
     ),
     (
         "normalise C0 7 1",
-        "number 4 place 0 words 0 length 0 stray 0 table output -",
+        "number 4 place 0 words 0 length 0 missing 0 stray 0 table output -",
+    ),
+    (
+        "read C28201 20",
+        "number 2 place 0 words 0 missing 1 stray 0 table",
+    ),
+    (
+        "normalise 80C283020000 7 1",
+        "number 2 place 1 words 0 length 0 missing 65536 stray 0 table output -",
     ),
     ("list FE", r"text accepted 1 items 1 rows\n0 EMPTY\n"),
     ("list C4", r"text refused 7 at 0\n"),
@@ -94,9 +108,12 @@ fn the_command_answers_line_by_line() {
     let text = String::from_utf8(output.stdout).expect("text");
     let lines: Vec<&str> = text.lines().collect();
     assert_eq!(lines.len(), 4);
-    assert_eq!(lines[1], "number 1 place 0 words 0 stray 0 table");
+    assert_eq!(lines[1], "number 1 place 0 words 0 missing 0 stray 0 table");
     assert!(lines[2].starts_with("error: "));
-    assert_eq!(lines[3], "number 0 place 0 words 4 stray 0 table 0 0 4 0");
+    assert_eq!(
+        lines[3],
+        "number 0 place 0 words 4 missing 0 stray 0 table 0 0 4 0"
+    );
     assert!(output.status.success());
 }
 

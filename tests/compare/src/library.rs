@@ -38,6 +38,7 @@ pub fn read(message: &[u8], table: &mut [u64], empty: Empty) -> Reading {
         number: answer.number,
         place: answer.place,
         words: answer.words,
+        missing: answer.missing,
     }
 }
 
@@ -84,5 +85,6 @@ pub fn normalise(
         place: answer.place,
         words: answer.words,
         length: answer.length,
+        missing: answer.missing,
     }
 }

@@ -20,27 +20,27 @@ scan-message-requires c κs = search needs
 enum-known-scanned : tie.Need-enum-known-scanned
 enum-known-scanned c = search needs
 
-answered-requires-2 : tie.Need-answered-requires-2
-answered-requires-2 c κs = search needs
+refused-requires : tie.Need-refused-requires
+refused-requires c κs = search needs
 
 enum-known-scanned-2 : tie.Need-enum-known-scanned-2
 enum-known-scanned-2 c = search needs
 
-answered-requires-3 : tie.Need-answered-requires-3
-answered-requires-3 c κs = search needs
+answered-requires-2 : tie.Need-answered-requires-2
+answered-requires-2 c κs = search needs
 
 returns-2 : tie.Need-returns-2
 returns-2 c =
-    ap (λ r. readTold r (c .before .before .before .before .before .before .before .before .before .before .args .table .now)) (c .answered3 .ensures)
+    ap (λ r. readTold r (c .before .before .before .before .before .before .before .before .before .before .args .table .now)) (c .answered2 .ensures)
     ∙ read-rows (outcome (c .before .before .before .before .before .before .before .before .before .before .args .message .now)) (c .before .before .before .before .before .before .before .before .before .before .args .table .now) (c .before .before .before .before .scanned2 .given .0 .0) (sym (c .before .before .before .before .scanned2 .given .1) ∙ c .before .before .before .before .before .before .scan-message .ensures) (c .before .if2 .taken)
     ∙ read-short (c .before .before .before .before .before .before .before .before .before .before .args .message .now) (c .before .before .before .before .before .before .before .before .before .before .args .table .now) (omega (arith, c .before .before .before .before .before .before .before .if1 .left))
 
-answered-requires-4 : tie.Need-answered-requires-4
-answered-requires-4 c κs = search needs
+answered-requires-3 : tie.Need-answered-requires-3
+answered-requires-3 c κs = search needs
 
 returns-3 : tie.Need-returns-3
 returns-3 c =
-    ap (λ r. readTold r (c .before .before .before .before .before .before .before .before .before .before .before .before .args .table .now)) (c .answered4 .ensures)
+    ap (λ r. readTold r (c .before .before .before .before .before .before .before .before .before .before .before .before .args .table .now)) (c .answered3 .ensures)
     ∙ read-words (outcome (c .before .before .before .before .before .before .before .before .before .before .before .before .args .message .now)) (c .before .before .before .before .before .before .before .before .before .before .before .before .args .table .now) (c .before .before .before .before .before .before .scanned2 .given .0 .0) (sym (c .before .before .before .before .before .before .scanned2 .given .1) ∙ c .before .before .before .before .before .before .before .before .scan-message .ensures)
     (omega (arith, c .before .before .before .if2 .left)) (c .before .if3 .taken)
     ∙ read-short (c .before .before .before .before .before .before .before .before .before .before .before .before .args .message .now) (c .before .before .before .before .before .before .before .before .before .before .before .before .args .table .now) (omega (arith, c .before .before .before .before .before .before .before .before .before .if1 .left))
@@ -54,12 +54,12 @@ add-needed c = search needs
 add-needed-2 : tie.Need-add-needed-2
 add-needed-2 c = search needs
 
-answered-requires-5 : tie.Need-answered-requires-5
-answered-requires-5 c κs = search needs
+answered-requires-4 : tie.Need-answered-requires-4
+answered-requires-4 c κs = search needs
 
 returns-4 : tie.Need-returns-4
 returns-4 c =
-    ap (λ r. readTold r (c .before .before .before .before .before .before .before .before .before .before .before .before .before .before .before .args .table .now)) (c .answered5 .ensures)
+    ap (λ r. readTold r (c .before .before .before .before .before .before .before .before .before .before .before .before .before .before .before .args .table .now)) (c .answered4 .ensures)
     ∙ read-room (outcome (c .before .before .before .before .before .before .before .before .before .before .before .before .before .before .before .args .message .now)) (c .before .before .before .before .before .before .before .before .before .before .before .before .before .before .before .args .table .now) (c .before .before .before .before .before .before .before .before .before .scanned2 .given .0 .0) (sym (c .before .before .before .before .before .before .before .before .before .scanned2 .given .1) ∙ c .before .before .before .before .before .before .before .before .before .before .before .scan-message .ensures)
     (omega (arith, c .before .before .before .before .before .before .if2 .left)) (omega (arith, c .before .before .before .before .if3 .left)) (c .before .if4 .taken)
     ∙ read-short (c .before .before .before .before .before .before .before .before .before .before .before .before .before .before .before .args .message .now) (c .before .before .before .before .before .before .before .before .before .before .before .before .before .before .before .args .table .now) (omega (arith, c .before .before .before .before .before .before .before .before .before .before .before .before .if1 .left))
@@ -71,13 +71,13 @@ fill-requires c κs = (
       (omega (arith, c .before .before .before .before .before .before .if2 .left)) (omega (arith, c .before .before .before .before .if3 .left)) (omega (arith, c .before .if4 .left)),
 )
 
-answered-requires-6 : tie.Need-answered-requires-6
-answered-requires-6 c κs = search needs
+answered-requires-5 : tie.Need-answered-requires-5
+answered-requires-5 c κs = search needs
 
 returns-5 : tie.Need-returns-5
 returns-5 c =
-    ap (λ r. readTold r (c .before .before .before .before .before .before .before .before .args .table .now)) (c .answered2 .ensures)
-    ∙ read-refused (outcome (c .before .before .before .before .before .before .before .before .args .message .now)) (c .before .before .before .before .before .before .before .before .args .table .now) (c .before .before .scanned .given .0 .0) (c .before .before .scanned .given .0 .1 .0) (sym (c .before .before .scanned .given .1) ∙ c .before .before .before .before .scan-message .ensures)
+    ap (λ r. readTold r (c .before .before .before .before .before .before .before .before .args .table .now)) (c .refused .ensures)
+    ∙ read-refused (outcome (c .before .before .before .before .before .before .before .before .args .message .now)) (c .before .before .before .before .before .before .before .before .args .table .now) (c .before .before .scanned .given .0 .0) (sym (c .before .before .scanned .given .1) ∙ c .before .before .before .before .scan-message .ensures)
     ∙ read-short (c .before .before .before .before .before .before .before .before .args .message .now) (c .before .before .before .before .before .before .before .before .args .table .now) (omega (arith, c .before .before .before .before .before .if1 .left))
 
 same-length : tie.Need-same-length
@@ -85,7 +85,7 @@ same-length c = search needs
 
 returns-6 : tie.Need-returns-6
 returns-6 c =
-    ap (λ r. readTold r (c .before .before .before .fill .last .1 .0)) (c .answered6 .ensures)
+    ap (λ r. readTold r (c .before .before .before .fill .last .1 .0)) (c .answered5 .ensures)
     ∙ ap (readTold _) (c .before .before .before .fill .ensures)
     ∙ read-well (outcome (c .before .before .before .before .before .before .before .before .before .before .before .before .before .before .before .before .before .before .before .args .message .now)) (c .before .before .before .before .before .before .before .before .before .before .before .before .before .before .before .before .before .before .before .args .table .now) (c .before .before .before .before .before .before .before .before .before .before .before .before .before .scanned2 .given .0 .0) (sym (c .before .before .before .before .before .before .before .before .before .before .before .before .before .scanned2 .given .1) ∙ c .before .before .before .before .before .before .before .before .before .before .before .before .before .before .before .scan-message .ensures)
     (omega (arith, c .before .before .before .before .before .before .before .before .before .before .if2 .left)) (omega (arith, c .before .before .before .before .before .before .before .before .if3 .left)) (omega (arith, c .before .before .before .before .before .if4 .left))
@@ -99,19 +99,19 @@ read-spec =
     returns
     scan-message-requires
     enum-known-scanned
-    answered-requires-2
+    refused-requires
     enum-known-scanned-2
-    answered-requires-3
+    answered-requires-2
     returns-2
-    answered-requires-4
+    answered-requires-3
     returns-3
     mul-needed
     add-needed
     add-needed-2
-    answered-requires-5
+    answered-requires-4
     returns-4
     fill-requires
-    answered-requires-6
+    answered-requires-5
     returns-5
     same-length
     returns-6)

@@ -6,9 +6,11 @@ use lib.ListN.{length, take, drop, getD, length-take, length-drop}
 use Prim.Native.Nat.{ℕ, _+_, _-_, _*_, _≤_, _<_}
 use borrow.Author.Needs.{needs}
 use native.Mathlib.Omega.{arith}
-use mathlib.Core.Path.{_≡_, refl, sym, _∙_}
+use mathlib.Core.Path.{_≡_, refl, sym, ap, _∙_}
+use Rattle.format.specs.Refusals.{further}
 use Rattle.format.specs.Messages.{reads}
 use Rattle.scan.specs.declared.Scanned.the-variants.{Refused}
+use Rattle.scan.specs.declared.closing.Object.the-variants.{Bad}
 use Rattle.scan.specs.Answer.{answer}
 use Rattle.scan.proofs.Turns.{Inv, inv-start, inv-end, leap-turn, bad-turn, got-turn}
 use Rattle.scan.proofs.ObjectCases.{stop-is, gap-is, row-is, short-few, short-is, long-few, long-is, text-fits, text-is, open-fits, open-place, open-refused, open-accepted}
@@ -37,6 +39,8 @@ use Rattle.scan.proofs.summary.one_of.Reads as one-of-reads
 use Rattle.scan.proofs.summary.plus.Reads as plus-reads
 use Rattle.scan.proofs.summary.plus_many.Reads as plus-many-reads
 use Rattle.scan.proofs.summary.text_of.Reads as text-of-reads
+use Rattle.format.proofs.fault.at.Reads as at-reads
+use Rattle.format.proofs.fault.further.Reads as further-reads
 use Rattle.format.proofs.tree.is_non_atomic.Reads as is-non-atomic-reads
 use Rattle.wire.proofs.head.head_of.Reads as head-of-reads
 use Rattle.wire.proofs.short.is_string.Reads as is-string-reads
@@ -93,6 +97,8 @@ scan-object-claims t = (
   text-of-reads.Learnt,
   scan-run-below t,
   scan-run.Post,
+  further-reads.Asked,
+  further-reads.Learnt,
   closed-reads.Asked,
   closed-reads.Learnt,
 )
@@ -107,6 +113,8 @@ scan-run-claims t = (
   short-size-reads.Learnt,
   scan-short-below t,
   scan-short.Post,
+  further-reads.Asked,
+  further-reads.Learnt,
   plus-reads.Asked,
   plus-reads.Learnt,
   leap-from-reads.Asked,
@@ -127,8 +135,12 @@ scan-short-claims t = (
   all-chars-reads.Learnt,
   text-fault-reads.Asked,
   text-fault-reads.Learnt,
+  at-reads.Asked,
+  at-reads.Learnt,
   scan-run-below t,
   scan-run.Post,
+  further-reads.Asked,
+  further-reads.Learnt,
   fault-of-reads.Asked,
   fault-of-reads.Learnt,
   group-of-reads.Asked,
@@ -183,8 +195,8 @@ scan-object-capped-requires t c κs = search needs
 scan-object-text-of-requires : (t : ℕ) → scan-object-lts.Need-text-of-requires (scan-object-claims t) (scan-object-at t) scan-object.Post
 scan-object-text-of-requires t c κs = search needs
 
-scan-object-add-t32 : (t : ℕ) → scan-object-lts.Need-add-t32 (scan-object-claims t) (scan-object-at t) scan-object.Post
-scan-object-add-t32 t c =
+scan-object-add-t30 : (t : ℕ) → scan-object-lts.Need-add-t30 (scan-object-claims t) (scan-object-at t) scan-object.Post
+scan-object-add-t30 t c =
     let f = text-fits _ _ _ _ (c .before .before .before .before .before .head-of .ensures) _ _ (c .before .before .before .h5 .given .1) in
     omega (arith, c .before .before .before .before .before .before .before .pre .1 .0)
 
@@ -205,10 +217,10 @@ scan-object-add-scan-run : (t : ℕ) → scan-object-lts.Need-add-scan-run (scan
 scan-object-add-scan-run t c = let f = opened t c in omega arith
 
 scan-object-sub-scan-run : (t : ℕ) → scan-object-lts.Need-sub-scan-run (scan-object-claims t) (scan-object-at t) scan-object.Post
-scan-object-sub-scan-run t c = search needs
+scan-object-sub-scan-run t c = let f = opened t c in omega arith
 
 scan-object-part-scan-run-start : (t : ℕ) → scan-object-lts.Need-part-scan-run-start (scan-object-claims t) (scan-object-at t) scan-object.Post
-scan-object-part-scan-run-start t c = search needs
+scan-object-part-scan-run-start t c = let f = opened t c in omega arith
 
 scan-object-part-scan-run-end : (t : ℕ) → scan-object-lts.Need-part-scan-run-end (scan-object-claims t) (scan-object-at t) scan-object.Post
 scan-object-part-scan-run-end t c = let f = opened t c in omega arith
@@ -223,15 +235,15 @@ scan-object-enum-known-r t c = search needs
 
 -- the place of a fault in the contents lies within them
 inside : (t : ℕ) (c : scan-object-lts.After-known-told7 (scan-object-claims t) (scan-object-at t) scan-object.Post)
-    → c .before .r .given .0 .1 .0 < c .before .before .before .before .before .before .h6 .given .0 .1 .1 .0
+    → c .before .r .given .0 .0 .place < c .before .before .before .before .before .before .h6 .given .0 .1 .1 .0
 inside t c =
-    open-place _ _ _ _ (c .before .before .before .before .before .before .before .before .head-of .ensures) _ _ _ (c .before .before .before .before .before .before .h6 .given .1) _ _ (sym (c .before .r .given .1) ∙ c .before .before .before .scan-run .ensures)
+    open-place _ _ _ _ (c .before .before .before .before .before .before .before .before .head-of .ensures) _ _ _ (c .before .before .before .before .before .before .h6 .given .1) _ (sym (c .before .r .given .1) ∙ c .before .before .before .scan-run .ensures)
 
-scan-object-add-t39 : (t : ℕ) → scan-object-lts.Need-add-t39 (scan-object-claims t) (scan-object-at t) scan-object.Post
-scan-object-add-t39 t c = let f = opened t (c .before .before .before .before .before) in let p = inside t c in omega arith
+scan-object-add-further : (t : ℕ) → scan-object-lts.Need-add-further (scan-object-claims t) (scan-object-at t) scan-object.Post
+scan-object-add-further t c = let f = opened t (c .before .before .before .before .before) in let p = inside t c in omega arith
 
-scan-object-add-t40 : (t : ℕ) → scan-object-lts.Need-add-t40 (scan-object-claims t) (scan-object-at t) scan-object.Post
-scan-object-add-t40 t c = let f = opened t (c .before .before .before .before .before) in let p = inside t c in omega arith
+scan-object-further-requires : (t : ℕ) → scan-object-lts.Need-further-requires (scan-object-claims t) (scan-object-at t) scan-object.Post
+scan-object-further-requires t c κs = let f = opened t (c .before .before .before .before .before) in let p = inside t c in omega arith
 
 scan-object-enum-known-r-2 : (t : ℕ) → scan-object-lts.Need-enum-known-r-2 (scan-object-claims t) (scan-object-at t) scan-object.Post
 scan-object-enum-known-r-2 t c = search needs
@@ -240,7 +252,7 @@ scan-object-closed-requires : (t : ℕ) → scan-object-lts.Need-closed-requires
 scan-object-closed-requires t c κs = search needs
 
 scan-object-returns : (t : ℕ) → scan-object-lts.Need-returns (scan-object-claims t) (scan-object-at t) scan-object.Post
-scan-object-returns t c = stop-is _ _ _ _ (c .before .before .before .head-of .ensures) _ _ (c .before .h .given .1)
+scan-object-returns t c = stop-is _ _ _ _ (c .before .before .before .head-of .ensures) _ (c .before .h .given .1)
 
 scan-object-returns-2 : (t : ℕ) → scan-object-lts.Need-returns-2 (scan-object-claims t) (scan-object-at t) scan-object.Post
 scan-object-returns-2 t c =
@@ -266,8 +278,9 @@ scan-object-returns-6 t c =
 
 scan-object-returns-7 : (t : ℕ) → scan-object-lts.Need-returns-7 (scan-object-claims t) (scan-object-at t) scan-object.Post
 scan-object-returns-7 t c =
-    open-refused _ _ _ _ (c .before .before .before .before .before .before .before .before .head-of .ensures) _ _ _
-    (c .before .before .before .before .before .before .h6 .given .1) _ _ (sym (c .before .r .given .1) ∙ c .before .before .before .scan-run .ensures)
+    ap Bad (c .further .ensures)
+    ∙ open-refused _ _ _ _ (c .before .before .before .before .before .before .before .before .before .head-of .ensures) _ _ _
+    (c .before .before .before .before .before .before .before .h6 .given .1) _ (sym (c .before .before .r .given .1) ∙ c .before .before .before .before .scan-run .ensures)
 
 scan-object-returns-8 : (t : ℕ) → scan-object-lts.Need-returns-8 (scan-object-claims t) (scan-object-at t) scan-object.Post
 scan-object-returns-8 t c =
@@ -347,16 +360,16 @@ scan-run-enum-known-r t c = search needs
 
 -- the place at which it is refused lies within the bytes, and is the run's
 refused-short : (t : ℕ) (c : scan-run-lts.After-known-told (scan-run-claims t) (scan-run-at t) scan-run.Post scan-run-Inv-loop scan-run-μ-loop)
-    → (c .before .before .before .before .before .before .before .before .before .before .before .before .loop .i + c .before .r .given .0 .1 .0 < length (c .before .before .before .before .before .before .before .before .before .before .before .before .before .before .before .args .s .now))
-    × (Refused (c .before .r .given .0 .0) (c .before .before .before .before .before .before .before .before .before .before .before .before .loop .i + c .before .r .given .0 .1 .0) ≡ answer (reads (c .before .before .before .before .before .before .before .before .before .before .before .before .before .before .before .args .depth) (c .before .before .before .before .before .before .before .before .before .before .before .before .before .before .before .args .s .now)))
+    → (c .before .before .before .before .before .before .before .before .before .before .before .before .loop .i + c .before .r .given .0 .0 .place < length (c .before .before .before .before .before .before .before .before .before .before .before .before .before .before .before .args .s .now))
+    × (Refused (further (c .before .before .before .before .before .before .before .before .before .before .before .before .loop .i) (c .before .r .given .0 .0)) ≡ answer (reads (c .before .before .before .before .before .before .before .before .before .before .before .before .before .before .before .args .depth) (c .before .before .before .before .before .before .before .before .before .before .before .before .before .before .before .args .s .now)))
 refused-short t c =
-    bad-short _ _ _ _ (c .before .before .before .before .before .before .before .before .before .before .before .loop-test .taken) (found t (c .before .before .before .before .before)) _ (c .before .before .before .before .before .before .before .before .before .before .before .before .loop .inv) _ _ _ (c .before .r .given .1) (c .before .before .before .scan-short .ensures)
+    bad-short _ _ _ _ (c .before .before .before .before .before .before .before .before .before .before .before .loop-test .taken) (found t (c .before .before .before .before .before)) _ (c .before .before .before .before .before .before .before .before .before .before .before .before .loop .inv) _ _ (c .before .r .given .1) (c .before .before .before .scan-short .ensures)
 
-scan-run-add-t34 : (t : ℕ) → scan-run-lts.Need-add-t34 (scan-run-claims t) (scan-run-at t) scan-run.Post scan-run-Inv-loop scan-run-μ-loop
-scan-run-add-t34 t c = let q = refused-short t c in omega (arith, c .before .before .before .before .before .before .before .before .before .before .before .before .before .before .before .pre .1 .0)
+scan-run-further-requires : (t : ℕ) → scan-run-lts.Need-further-requires (scan-run-claims t) (scan-run-at t) scan-run.Post scan-run-Inv-loop scan-run-μ-loop
+scan-run-further-requires t c κs = let q = refused-short t c in omega (arith, c .before .before .before .before .before .before .before .before .before .before .before .before .before .before .before .pre .1 .0)
 
 scan-run-returns : (t : ℕ) → scan-run-lts.Need-returns (scan-run-claims t) (scan-run-at t) scan-run.Post scan-run-Inv-loop scan-run-μ-loop
-scan-run-returns t c = refused-short t c .1
+scan-run-returns t c = ap Refused (c .further .ensures) ∙ refused-short t (c .before) .1
 
 scan-run-enum-known-r-2 : (t : ℕ) → scan-run-lts.Need-enum-known-r-2 (scan-run-claims t) (scan-run-at t) scan-run.Post scan-run-Inv-loop scan-run-μ-loop
 scan-run-enum-known-r-2 t c = search needs
@@ -402,16 +415,16 @@ scan-run-enum-known-o t c = search needs
 
 -- a refused object's place lies within the bytes, and is the run's
 refused : (t : ℕ) (c : scan-run-lts.After-known-told3 (scan-run-claims t) (scan-run-at t) scan-run.Post scan-run-Inv-loop scan-run-μ-loop)
-    → (c .before .before .before .before .before .before .before .before .before .loop .i + c .before .o .given .0 .1 .0 < length (c .before .before .before .before .before .before .before .before .before .before .before .before .args .s .now))
-    × (Refused (c .before .o .given .0 .0) (c .before .before .before .before .before .before .before .before .before .loop .i + c .before .o .given .0 .1 .0) ≡ answer (reads (c .before .before .before .before .before .before .before .before .before .before .before .before .args .depth) (c .before .before .before .before .before .before .before .before .before .before .before .before .args .s .now)))
+    → (c .before .before .before .before .before .before .before .before .before .loop .i + c .before .o .given .0 .0 .place < length (c .before .before .before .before .before .before .before .before .before .before .before .before .args .s .now))
+    × (Refused (further (c .before .before .before .before .before .before .before .before .before .loop .i) (c .before .o .given .0 .0)) ≡ answer (reads (c .before .before .before .before .before .before .before .before .before .before .before .before .args .depth) (c .before .before .before .before .before .before .before .before .before .before .before .before .args .s .now)))
 refused t c =
-    bad-turn _ _ _ _ (c .before .before .before .before .before .before .before .before .before .loop .inv) (c .before .before .before .before .before .before .before .before .loop-test .taken) _ _ (sym (c .before .o .given .1) ∙ c .before .before .before .scan-object .ensures)
+    bad-turn _ _ _ _ (c .before .before .before .before .before .before .before .before .before .loop .inv) (c .before .before .before .before .before .before .before .before .loop-test .taken) _ (sym (c .before .o .given .1) ∙ c .before .before .before .scan-object .ensures)
 
-scan-run-add-t39 : (t : ℕ) → scan-run-lts.Need-add-t39 (scan-run-claims t) (scan-run-at t) scan-run.Post scan-run-Inv-loop scan-run-μ-loop
-scan-run-add-t39 t c = let q = refused t c in omega (arith, c .before .before .before .before .before .before .before .before .before .before .before .before .pre .1 .0)
+scan-run-further-requires-2 : (t : ℕ) → scan-run-lts.Need-further-requires-2 (scan-run-claims t) (scan-run-at t) scan-run.Post scan-run-Inv-loop scan-run-μ-loop
+scan-run-further-requires-2 t c κs = let q = refused t c in omega (arith, c .before .before .before .before .before .before .before .before .before .before .before .before .pre .1 .0)
 
 scan-run-returns-2 : (t : ℕ) → scan-run-lts.Need-returns-2 (scan-run-claims t) (scan-run-at t) scan-run.Post scan-run-Inv-loop scan-run-μ-loop
-scan-run-returns-2 t c = refused t c .1
+scan-run-returns-2 t c = ap Refused (c .further2 .ensures) ∙ refused t (c .before) .1
 
 scan-run-enum-known-o-2 : (t : ℕ) → scan-run-lts.Need-enum-known-o-2 (scan-run-claims t) (scan-run-at t) scan-run.Post scan-run-Inv-loop scan-run-μ-loop
 scan-run-enum-known-o-2 t c = search needs
@@ -460,10 +473,13 @@ scan-short-all-chars-requires t c κs = search needs
 scan-short-text-fault-requires : (t : ℕ) → scan-short-lts.Need-text-fault-requires (scan-short-claims t) (scan-short-at t) scan-short.Post
 scan-short-text-fault-requires t c κs = search needs
 
+scan-short-at-requires : (t : ℕ) → scan-short-lts.Need-at-requires (scan-short-claims t) (scan-short-at t) scan-short.Post
+scan-short-at-requires t c κs = search needs
+
 scan-short-returns-2 : (t : ℕ) → scan-short-lts.Need-returns-2 (scan-short-claims t) (scan-short-at t) scan-short.Post
 scan-short-returns-2 t c =
-    let p = c .before .before .before .before .before .before .before .pre .1 in
-    chars-refused _ _ _ (eqb-false _ _ (sym (c .before .before .before .before .before .is-string .ensures) ∙ c .before .before .before .before .if1 .left)) (p .0) (p .1) (c .before .before .before .all-chars .ensures (c .before .before .if2 .taken)) _ (c .before .text-fault .ensures) (c .if3 .taken)
+    let p = c .before .before .before .before .before .before .before .before .pre .1 in
+    chars-refused _ _ _ (eqb-false _ _ (sym (c .before .before .before .before .before .before .is-string .ensures) ∙ c .before .before .before .before .before .if1 .left)) (p .0) (p .1) (c .before .before .before .before .all-chars .ensures (c .before .before .before .if2 .taken)) _ (c .before .before .text-fault .ensures) _ (c .at .ensures) (c .before .if3 .taken)
 
 scan-short-add-text-of-2 : (t : ℕ) → scan-short-lts.Need-add-text-of-2 (scan-short-claims t) (scan-short-at t) scan-short.Post
 scan-short-add-text-of-2 t c = search needs
@@ -488,9 +504,9 @@ scan-short-scan-run-requires t c κs =
 scan-short-enum-known-r : (t : ℕ) → scan-short-lts.Need-enum-known-r (scan-short-claims t) (scan-short-at t) scan-short.Post
 scan-short-enum-known-r t c = search needs
 
-scan-short-add-t20 : (t : ℕ) → scan-short-lts.Need-add-t20 (scan-short-claims t) (scan-short-at t) scan-short.Post
-scan-short-add-t20 t c =
-    let l = short-place _ _ _ (eqb-false (c .before .before .before .before .before .before .before .before .before .args .b) 0xc6 (sym (c .before .before .before .before .before .before .before .is-string .ensures) ∙ c .before .before .before .before .before .before .if1 .left)) _ _ (sym (c .before .r .given .1) ∙ c .before .before .before .scan-run .ensures) in
+scan-short-further-requires : (t : ℕ) → scan-short-lts.Need-further-requires (scan-short-claims t) (scan-short-at t) scan-short.Post
+scan-short-further-requires t c κs =
+    let l = short-place _ _ _ (eqb-false (c .before .before .before .before .before .before .before .before .before .args .b) 0xc6 (sym (c .before .before .before .before .before .before .before .is-string .ensures) ∙ c .before .before .before .before .before .before .if1 .left)) _ (sym (c .before .r .given .1) ∙ c .before .before .before .scan-run .ensures) in
     omega (arith, c .before .before .before .before .before .before .before .before .before .pre .1 .1)
 
 scan-short-enum-known-r-2 : (t : ℕ) → scan-short-lts.Need-enum-known-r-2 (scan-short-claims t) (scan-short-at t) scan-short.Post
@@ -499,15 +515,19 @@ scan-short-enum-known-r-2 t c = search needs
 scan-short-fault-of-requires : (t : ℕ) → scan-short-lts.Need-fault-of-requires (scan-short-claims t) (scan-short-at t) scan-short.Post
 scan-short-fault-of-requires t c κs = search needs
 
+scan-short-at-requires-2 : (t : ℕ) → scan-short-lts.Need-at-requires-2 (scan-short-claims t) (scan-short-at t) scan-short.Post
+scan-short-at-requires-2 t c κs = search needs
+
 scan-short-returns-4 : (t : ℕ) → scan-short-lts.Need-returns-4 (scan-short-claims t) (scan-short-at t) scan-short.Post
 scan-short-returns-4 t c =
-    short-faulty _ _ _ (eqb-false _ _ (sym (c .before .before .before .before .before .before .before .before .before .is-string .ensures) ∙ c .before .before .before .before .before .before .before .before .if1 .left)) _ (sym (c .before .before .before .r2 .given .1) ∙ c .before .before .before .before .before .scan-run .ensures) _ (c .before .fault-of .ensures) (c .if4 .taken)
+    short-faulty _ _ _ (eqb-false _ _ (sym (c .before .before .before .before .before .before .before .before .before .before .is-string .ensures) ∙ c .before .before .before .before .before .before .before .before .before .if1 .left)) _ (sym (c .before .before .before .before .r2 .given .1) ∙ c .before .before .before .before .before .before .scan-run .ensures) _ (c .before .before .fault-of .ensures) _ (c .at2 .ensures) (c .before .if4 .taken)
 
 scan-short-group-of-requires : (t : ℕ) → scan-short-lts.Need-group-of-requires (scan-short-claims t) (scan-short-at t) scan-short.Post
 scan-short-group-of-requires t c κs = search needs
 
 scan-short-returns-5 : (t : ℕ) → scan-short-lts.Need-returns-5 (scan-short-claims t) (scan-short-at t) scan-short.Post
-scan-short-returns-5 t c = short-refused _ _ _ (eqb-false _ _ (sym (c .before .before .before .before .before .before .before .is-string .ensures) ∙ c .before .before .before .before .before .before .if1 .left)) _ _ (sym (c .before .r .given .1) ∙ c .before .before .before .scan-run .ensures)
+scan-short-returns-5 t c =
+    short-refused _ _ _ (eqb-false _ _ (sym (c .before .before .before .before .before .before .before .before .is-string .ensures) ∙ c .before .before .before .before .before .before .before .if1 .left)) _ _ (c .further .ensures) (sym (c .before .before .r .given .1) ∙ c .before .before .before .before .scan-run .ensures)
 
 scan-short-returns-6 : (t : ℕ) → scan-short-lts.Need-returns-6 (scan-short-claims t) (scan-short-at t) scan-short.Post
 scan-short-returns-6 t c =
@@ -533,7 +553,7 @@ pub +scan-object+scan-run+scan-short-spec : {M : Type 1} → statement M
     (scan-object-add-capped t)
     (scan-object-capped-requires t)
     (scan-object-text-of-requires t)
-    (scan-object-add-t32 t)
+    (scan-object-add-t30 t)
     (scan-object-enum-known-h-6 t)
     (scan-object-add-e t)
     (scan-object-add-scan-run t)
@@ -542,8 +562,8 @@ pub +scan-object+scan-run+scan-short-spec : {M : Type 1} → statement M
     (scan-object-part-scan-run-end t)
     (scan-object-scan-run-requires t)
     (scan-object-enum-known-r t)
-    (scan-object-add-t39 t)
-    (scan-object-add-t40 t)
+    (scan-object-add-further t)
+    (scan-object-further-requires t)
     (scan-object-enum-known-r-2 t)
     (scan-object-closed-requires t)
     (scan-object-returns t)
@@ -576,7 +596,7 @@ pub +scan-object+scan-run+scan-short-spec : {M : Type 1} → statement M
     (scan-run-part-scan-short-end t)
     (scan-run-scan-short-requires t)
     (scan-run-enum-known-r t)
-    (scan-run-add-t34 t)
+    (scan-run-further-requires t)
     (scan-run-returns t)
     (scan-run-enum-known-r-2 t)
     (scan-run-plus-requires t)
@@ -591,7 +611,7 @@ pub +scan-object+scan-run+scan-short-spec : {M : Type 1} → statement M
     (scan-run-part-scan-object-end t)
     (scan-run-scan-object-requires t)
     (scan-run-enum-known-o t)
-    (scan-run-add-t39 t)
+    (scan-run-further-requires-2 t)
     (scan-run-returns-2 t)
     (scan-run-enum-known-o-2 t)
     (scan-run-plus-requires-2 t)
@@ -609,6 +629,7 @@ pub +scan-object+scan-run+scan-short-spec : {M : Type 1} → statement M
     (scan-short-returns t)
     (scan-short-all-chars-requires t)
     (scan-short-text-fault-requires t)
+    (scan-short-at-requires t)
     (scan-short-returns-2 t)
     (scan-short-add-text-of-2 t)
     (scan-short-text-of-requires-2 t)
@@ -616,9 +637,10 @@ pub +scan-object+scan-run+scan-short-spec : {M : Type 1} → statement M
     (scan-short-add-scan-run t)
     (scan-short-scan-run-requires t)
     (scan-short-enum-known-r t)
-    (scan-short-add-t20 t)
+    (scan-short-further-requires t)
     (scan-short-enum-known-r-2 t)
     (scan-short-fault-of-requires t)
+    (scan-short-at-requires-2 t)
     (scan-short-returns-4 t)
     (scan-short-group-of-requires t)
     (scan-short-returns-5 t)

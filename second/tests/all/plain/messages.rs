@@ -4,17 +4,17 @@
 use super::items::Item::{self, Bits, Bool, Char, Edt, Empty, Int, Struc, Xtra};
 use super::items::{are_of_one_kind, bits_of, data_words, has_heads, rows, signed};
 
-/// A refusal with its number and place.
-pub type Refusal = (u64, u64);
+/// A refusal with its number, its place and the bytes that are missing.
+pub type Refusal = (u64, u64, u64);
 
 /// The items of a message, or why it says none.
 pub fn items(message: &[u8]) -> Result<Vec<Item>, Refusal> {
     if message.len() > 65_536 {
-        return Err((1, 0));
+        return Err((1, 0, 0));
     }
     let items = run(message, 0, message.len(), 0)?;
     if rows(&items) > 16_384 || data_words(&items) > 16_384 {
-        return Err((10, 0));
+        return Err((10, 0, 0));
     }
     Ok(items)
 }
@@ -46,7 +46,7 @@ fn object(
     match byte {
         0x00..=0x7F => leaf(Char(byte)),
         0x80..=0xBF => leaf(Int(byte as i64 - 0x80)),
-        0xC0 | 0xC7..=0xDF | 0xE8..=0xEF => Err((4, at as u64)),
+        0xC0 | 0xC7..=0xDF | 0xE8..=0xEF => Err((4, at as u64, 0)),
         0xC1..=0xC6 => sized(message, at, end, inside),
         0xE0..=0xE7 | 0xF0..=0xF7 => atomic(message, at, end, inside),
         0xF8..=0xFB => leaf(Xtra(byte - 0xF8)),
@@ -56,8 +56,12 @@ fn object(
     }
 }
 
-fn cut(at: usize, inside: usize) -> Refusal {
-    (if inside == 0 { 2 } else { 3 }, at as u64)
+/// The refusal of an object that needs bytes up to `needed` and has them only up
+/// to `end`.
+fn cut(at: usize, inside: usize, needed: usize, end: usize) -> Refusal {
+    let number = if inside == 0 { 2 } else { 3 };
+    let missing = (needed - end).min(65_536);
+    (number, at as u64, missing as u64)
 }
 
 /// A LINTEGER or SBITSTR.
@@ -73,14 +77,14 @@ fn atomic(
     };
     let after = at + 1 + width;
     if after > end {
-        return Err(cut(at, inside));
+        return Err(cut(at, inside, after, end));
     }
     let data = &message[at + 1..after];
     if message[at] < 0xF0 {
         return Ok((vec![Int(signed(data))], after));
     }
     if data[0] == 0 {
-        return Err((6, at as u64));
+        return Err((6, at as u64, 0));
     }
     let bits = bits_of(data);
     let marker = bits.iter().position(|&bit| bit).expect("a first 1");
@@ -97,17 +101,20 @@ fn sized(
     let place = at as u64;
     let byte = message[at];
     if byte == 0xC4 && inside == 0 {
-        return Err((7, place));
+        return Err((7, place, 0));
     }
     if byte != 0xC1 && inside == 16 {
-        return Err((5, place));
+        return Err((5, place, 0));
     }
-    let (start, after) = contents(message, at, end).ok_or(cut(at, inside))?;
+    let (start, after) = match contents(&message[..end], at) {
+        (_, needed) if needed > end => return Err(cut(at, inside, needed, end)),
+        (start, after) => (start, after),
+    };
     let elements = |from| run(message, from, after, inside + 1);
     let items = match byte {
         0xC1 => vec![long_bits(message, at, start, after)?],
         0xC4 => {
-            let (count, from) = count(message, start, after, (7, place))?;
+            let (count, from) = count(message, start, after, (7, place, 0))?;
             repeated(elements(from)?, count)
         }
         0xC6 => {
@@ -121,31 +128,37 @@ fn sized(
     Ok((items, after))
 }
 
-/// Where the contents of the object at `at` begin and end.
-fn contents(message: &[u8], at: usize, end: usize) -> Option<(usize, usize)> {
-    let within = &message[..end];
-    let (start, size) = match *within.get(at + 1)? {
-        0x00 => (at + 2, 128),
-        first @ 0x01..=0x7F => (at + 2, first as usize),
-        first => {
-            let many = if first == 0x80 {
-                128
-            } else {
-                first as usize - 0x80
-            };
-            let field = within.get(at + 2..at + 2 + many)?;
-            let leading_zeros = field.iter().take_while(|&&byte| byte == 0).count();
-            let digits = &field[leading_zeros..];
-            if digits.len() > 3 {
-                return None;
-            }
-            let size = digits
-                .iter()
-                .fold(0, |size, &byte| size * 256 + byte as usize);
-            (at + 2 + many, size)
-        }
+/// Where the contents of the object at `at` begin and end, whether or not they
+/// are there. Of a size field that is not all there only its own end is known.
+fn contents(within: &[u8], at: usize) -> (usize, usize) {
+    let after_first = at + 2;
+    let Some(&first) = within.get(at + 1) else {
+        return (after_first, after_first);
     };
-    (start + size <= end).then_some((start, start + size))
+    if first < 0x80 {
+        let size = if first == 0 { 128 } else { first as usize };
+        return (after_first, after_first + size);
+    }
+    let many = if first == 0x80 { 128 } else { first - 0x80 };
+    let start = after_first + many as usize;
+    match within.get(after_first..start) {
+        Some(digits) => (start, start + small_size(digits)),
+        None => (start, start),
+    }
+}
+
+/// The size that these digits, a byte each, make. One of four digits and more,
+/// zeros in front left out, wants more than 65,536 bytes in every message; the
+/// smallest of these stands for all.
+fn small_size(digits: &[u8]) -> usize {
+    let zeros = digits.iter().take_while(|&&digit| digit == 0).count();
+    match digits[zeros..] {
+        [] => 0,
+        [one] => one as usize,
+        [high, low] => high as usize * 256 + low as usize,
+        [high, middle, low] => (high as usize * 256 + middle as usize) * 256 + low as usize,
+        _ => 256 * 256 * 256,
+    }
 }
 
 /// A count or length from `at` on, and where it ends.
@@ -169,7 +182,7 @@ fn count(
 }
 
 fn long_bits(message: &[u8], at: usize, start: usize, end: usize) -> Result<Item, Refusal> {
-    let refusal = (6, at as u64);
+    let refusal = (6, at as u64, 0);
     let (length, from) = count(message, start, end, refusal)?;
     let bits = bits_of(&message[from..end]);
     if length.div_ceil(8) != (end - from) as u64 {
@@ -194,13 +207,13 @@ fn repeated(pattern: Vec<Item>, count: u64) -> Vec<Item> {
 fn of_one_kind(elements: Vec<Item>, place: u64) -> Result<Vec<Item>, Refusal> {
     match are_of_one_kind(&elements) {
         true => Ok(elements),
-        false => Err((8, place)),
+        false => Err((8, place, 0)),
     }
 }
 
 fn with_heads(elements: Vec<Item>, place: u64) -> Result<Vec<Item>, Refusal> {
     match has_heads(&elements) {
         true => Ok(elements),
-        false => Err((9, place)),
+        false => Err((9, place, 0)),
     }
 }

@@ -2,7 +2,7 @@
 //! worked examples, the classes of all type-bytes, and the numbers.
 
 use crate::checker::Checker;
-use crate::pages::{message, tables};
+use crate::pages::{message, refusal, tables};
 use crate::rooms::{AMPLE_BYTES, AMPLE_WORDS};
 use crate::small_stack::in_both_stacks;
 use crate::told;
@@ -33,7 +33,10 @@ fn bytes(cell: &str, same: &[u8]) -> Vec<u8> {
 /// A worked example: refused as told, or accepted with the normal form told.
 fn works(checker: &mut Checker, message: &[u8], said: &str, normal: &str) {
     let answer = checker.normalising(message, AMPLE_WORDS, AMPLE_BYTES);
-    let told = format!("refused {} at {}", answer.number, answer.place);
+    let told = format!(
+        "refused {}",
+        refusal(answer.number, answer.place, answer.missing)
+    );
     let refused = said.starts_with("refused");
     let as_said = match refused {
         true => told == said && normal.is_empty(),
@@ -52,7 +55,7 @@ fn works(checker: &mut Checker, message: &[u8], said: &str, normal: &str) {
 #[test]
 fn the_worked_examples() {
     let mut checker = Checker::new();
-    let examples = rows("Message", 21);
+    let examples = rows("Message", 23);
     in_both_stacks(&mut checker, |checker| {
         for row in &examples {
             for cell in row[0].split(", ") {

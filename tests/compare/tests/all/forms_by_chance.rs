@@ -74,7 +74,7 @@ fn nothing(chance: &mut Chance, inside: usize) -> Vec<u8> {
 }
 
 /// One item as an object inside `inside` containers.
-fn object(chance: &mut Chance, item: &Item, inside: usize) -> Vec<u8> {
+pub fn object(chance: &mut Chance, item: &Item, inside: usize) -> Vec<u8> {
     match item {
         Item::Int(value) => integer(chance, *value),
         Item::Bits(bits) => bit_string(chance, bits),

@@ -45,7 +45,13 @@ fn hostile(name: &'static str, message: Vec<u8>, number: u64) -> Hostile {
 }
 
 pub fn messages(size: Size) -> Vec<Hostile> {
-    let all = [counts(size), copies(size), depths(size), fields(size)];
+    let all = [
+        counts(size),
+        copies(size),
+        depths(size),
+        fields(size),
+        cut_short(size),
+    ];
     all.into_iter().flatten().collect()
 }
 
@@ -145,5 +151,29 @@ fn fields(size: Size) -> Vec<Hostile> {
         hostile("sizes in 128 bytes", widest.repeat(size.of(500)), 0),
         hostile("padding before lengths", padded.repeat(size.of(1_400)), 0),
         hostile("objects by turns", turns.repeat(size.of(2_730)), 0),
+    ]
+}
+
+/// The last object lacks bytes: its size field is cut short, its size is beyond
+/// every room, or it passes the end of a container.
+fn cut_short(size: Size) -> Vec<Hostile> {
+    let widest = [vec![0xC2, 0x80], vec![0; 128]].concat();
+    let beyond = [vec![0xC2, 0x80, 0x01], vec![0; 127]].concat();
+    let sizes = |last: &[u8]| [&widest.repeat(size.of(500)), last].concat();
+    let padding = vec![0xFF; size.of(65_000)];
+    let nests = nest(16, 0xC2, &[0x80]).repeat(size.of(960));
+    vec![
+        hostile("a size field cut short", sizes(&widest[..129]), 2),
+        hostile("a size of 2^1016", sizes(&beyond), 2),
+        hostile(
+            "a size of 2^1016 sixteen deep",
+            nest(15, 0xC2, &[padding, beyond].concat()),
+            3,
+        ),
+        hostile(
+            "the last nest cut short",
+            [nests, nest(16, 0xC2, &[0xE2, 0x01])].concat(),
+            3,
+        ),
     ]
 }

@@ -51,5 +51,7 @@ mod normalising_pairs;
 
 mod format_page;
 mod kind_pairs;
+mod missing;
+mod missing_sizes;
 mod refusals_page;
 mod stretches;

@@ -35,3 +35,11 @@ pub fn message(cell: &str) -> Option<Vec<u8>> {
     let byte = |digits| u8::from_str_radix(digits, 16).expect("a byte");
     Some(bytes.map(byte).collect())
 }
+
+/// A refusal as the pages write it, with the bytes missing if there are some.
+pub fn refusal(number: u64, place: u64, missing: u64) -> String {
+    match missing {
+        0 => format!("{number} at {place}"),
+        _ => format!("{number} at {place}, {missing} missing"),
+    }
+}

@@ -17,7 +17,7 @@ const NESTING: [u8; 12] = [
 #[test]
 fn vectors() {
     let mut checker = Checker::new();
-    let vectors = with_key("read", 851);
+    let vectors = with_key("read", 980);
     in_both_stacks(&mut checker, |checker| {
         vectors
             .iter()
@@ -32,7 +32,7 @@ fn agree_with(checker: &mut Checker, vector: &Vector) {
     let expected = vector.block.words("read").expect("what reading answers");
     let answer = checker.reading(&message, vector.lent("lent", AMPLE_WORDS));
     let name = &vector.name;
-    let told = [answer.number, answer.place, answer.words];
+    let told = [answer.number, answer.place, answer.words, answer.missing];
     checker.must(told[..] == expected[..], || format!("{name}: {answer:?}"));
     if let Some(table) = vector.block.words("table") {
         let same = checker.table().starts_with(&table);
@@ -78,7 +78,9 @@ fn every_nesting_message_of_six_bytes() {
 
 /// Reads many messages that a maker makes, in every room.
 fn many(test: &str, usual: usize, make: impl FnMut(&mut Chance) -> Vec<u8>) {
-    by_chance(test, usual, make, Checker::reading_in_every_room);
+    by_chance(test, usual, make, |checker, message| {
+        checker.reading_in_every_room(message)
+    });
 }
 
 #[test]

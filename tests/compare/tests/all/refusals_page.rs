@@ -5,7 +5,7 @@
 use crate::checker::Checker;
 use crate::every::every_run;
 use crate::objects;
-use crate::pages::{self, in_backticks, message};
+use crate::pages::{self, in_backticks, message, refusal};
 use crate::rooms::{AMPLE_BYTES, AMPLE_WORDS};
 use crate::small_stack::{in_both_stacks, report};
 use crate::tables::{nest, table};
@@ -120,7 +120,7 @@ fn every_number_once_and_in_order() {
 /// Reading answers as the page says. With 0 its words are not on the page.
 fn reading_as_told(checker: &mut Checker, line: &Line, message: &[u8], lent: usize, words: u64) {
     let answer = checker.reading(message, lent);
-    let told = format!("{} at {}", answer.number, answer.place);
+    let told = refusal(answer.number, answer.place, answer.missing);
     let needed = answer.number == 0 || answer.words == words;
     let same = answer.number == line.number && told == line.answer && needed;
     checker.must(same, || {

@@ -43,20 +43,20 @@ pub fn report(test: &str, cases: u64, checker: &Checker) {
     println!("{test}: {cases} cases, {} calls", checker.calls);
 }
 
-/// Checks many messages that a maker makes by chance.
-pub fn by_chance(
+/// Checks many messages, or other cases, that a maker makes by chance.
+pub fn by_chance<T: Sync>(
     test: &str,
     usual: usize,
-    mut make: impl FnMut(&mut Chance) -> Vec<u8>,
-    check: fn(&mut Checker, &[u8]),
+    mut make: impl FnMut(&mut Chance) -> T,
+    mut check: impl FnMut(&mut Checker, &T) + Send,
 ) {
     let mut chance = Chance::seeded(test);
     let mut checker = Checker::new();
     let rounds = rounds(usual);
     for _ in 0..rounds {
-        let messages: Vec<_> = (0..AT_ONCE).map(|_| make(&mut chance)).collect();
+        let cases: Vec<_> = (0..AT_ONCE).map(|_| make(&mut chance)).collect();
         in_small_stack(&mut checker, |checker| {
-            messages.iter().for_each(|message| check(checker, message));
+            cases.iter().for_each(|case| check(checker, case));
         });
     }
     report(test, (rounds * AT_ONCE) as u64, &checker);

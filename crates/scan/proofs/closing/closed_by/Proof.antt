@@ -1,17 +1,22 @@
 -- `closed_by` meets its contract. Assumes nothing.
-use mathlib.Core.Path.{sym}
+use mathlib.Core.Path.{sym, ap, _∙_}
 use Rattle.format.proofs.Choices.{ifEq-yes, ifEq-no}
+use Rattle.scan.specs.declared.closing.Object.the-variants.{Bad}
 use Rattle.scan.specs.Answer.{closedBy}
+use borrow.Author.Needs.{needs}
 use Rattle.scan.proofs.closing.closed_by.Statement.{statement}
 use Rattle.scan.proofs.closing.closed_by.Tie as tie
 
+at-requires : tie.Need-at-requires
+at-requires c κs = search needs
+
 returns : tie.Need-returns
 unfolding closedBy
-returns c = sym (ifEq-no _ _ _ _ (c .if1 .taken))
+returns c = ap Bad (c .at .ensures) ∙ sym (ifEq-no _ _ _ _ (c .before .if1 .taken))
 
 returns-2 : tie.Need-returns-2
 unfolding closedBy
 returns-2 c = sym (ifEq-yes _ _ _ _ (c .if1 .left))
 
 pub closed-by-spec : {M : Type 1} → statement M
-closed-by-spec = tie.close (tie.spec returns returns-2)
+closed-by-spec = tie.close (tie.spec at-requires returns returns-2)

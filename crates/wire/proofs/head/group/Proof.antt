@@ -17,7 +17,7 @@ enum-known-c-2 c = search needs
 
 returns : tie.Need-returns
 returns c =
-    group-stop (c .before .before .before .before .before .args .w) (c .before .before .before .before .before .args .depth) (c .before .c .given .0 .0) (c .before .before .before .before .before .args .s .now)
+    group-stop (c .before .before .before .before .before .args .w) (c .before .before .before .before .before .args .depth) (c .before .before .before .before .before .args .s .now) (c .before .c .given .0 .0)
     (subst (ContainedIs (c .before .before .before .before .before .args .depth) (c .before .before .before .before .before .args .s .now)) (c .before .c .given .1) (c .before .before .before .contents-of .ensures))
 
 returns-2 : tie.Need-returns-2

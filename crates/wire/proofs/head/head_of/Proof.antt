@@ -6,7 +6,7 @@ use Rattle.format.specs.declared.Class.the-variants as C
 use Rattle.format.specs.Objects.{headBy}
 use Rattle.format.proofs.TypeBytes.{InClass, in-class}
 use Rattle.wire.specs.Heads.{wrapOf}
-use Rattle.wire.proofs.HeadLaws.{by-class, char-row, sinteger-row, xtra-row, bool-row, empty-row, padding-gap, reserved-stop}
+use Rattle.wire.proofs.HeadLaws.{stopped, by-class, char-row, sinteger-row, xtra-row, bool-row, empty-row, padding-gap, reserved-stop}
 use borrow.Author.Needs.{needs}
 use Rattle.wire.proofs.head.head_of.Statement.{statement}
 use Rattle.wire.proofs.head.head_of.Tie as tie
@@ -92,6 +92,9 @@ enum-told-14 c = search needs
 enum-told-15 : tie.Need-enum-told-15
 enum-told-15 c = search needs
 
+at-requires : tie.Need-at-requires
+at-requires c κs = search needs
+
 returns : tie.Need-returns
 returns c =
     by-class (c .before .before .before .before .args .depth) (c .before .before .before .before .args .b) (c .before .before .before .before .args .s .now) (Row 3 (c .before .before .before .before .args .b) 0) C.Char7 (sym (c .enum-told .given .1) ∙ c .before .before .class-of .ensures)
@@ -170,8 +173,9 @@ returns-14 c =
 
 returns-15 : tie.Need-returns-15
 returns-15 c =
-    by-class (c .before .before .before .before .args .depth) (c .before .before .before .before .args .b) (c .before .before .before .before .args .s .now) (Stop 4 0) C.Reserved (sym (c .enum-told15 .given .1) ∙ c .before .before .class-of .ensures)
-    (reserved-stop (c .before .before .before .before .args .depth) (c .before .before .before .before .args .b) (c .before .before .before .before .args .s .now))
+    let a = c .before .before .before .before .before .args in
+    by-class (a .depth) (a .b) (a .s .now) (Stop (c .at .result)) C.Reserved (sym (c .before .enum-told15 .given .1) ∙ c .before .before .before .class-of .ensures)
+    (stopped (a .s .now) _ (c .at .result) _ (c .at .ensures) (reserved-stop (a .depth) (a .b) (a .s .now)))
 
 pub head-of-spec : {M : Type 1} → statement M
 head-of-spec =
@@ -204,6 +208,7 @@ head-of-spec =
     enum-told-13
     enum-told-14
     enum-told-15
+    at-requires
     returns
     returns-2
     returns-3

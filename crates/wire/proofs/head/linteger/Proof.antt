@@ -9,11 +9,16 @@ use Rattle.wire.proofs.head.linteger.Tie as tie
 following-of-requires : tie.Need-following-of-requires
 following-of-requires c κs = search needs
 
-past-of-requires : tie.Need-past-of-requires
-past-of-requires c κs = search needs
+sub-past-end : tie.Need-sub-past-end
+sub-past-end c = search needs
+
+past-end-requires : tie.Need-past-end-requires
+past-end-requires c κs = search needs
 
 returns : tie.Need-returns
-returns c = linteger-stop (c .before .before .before .before .args .depth) (c .before .before .before .before .args .b) (c .before .before .following-of .result) (c .past-of .result) (c .before .before .before .before .args .s .now) (c .before .before .following-of .ensures .0) (c .before .if1 .taken) (c .past-of .ensures)
+returns c =
+    let a = c .before .before .before .before .args in
+    linteger-stop (a .depth) (a .b) (c .before .before .following-of .result) (a .s .now) (c .past-end .result) (c .before .before .following-of .ensures .0) (c .before .if1 .taken) (c .past-end .ensures)
 
 integer-of-requires : tie.Need-integer-of-requires
 integer-of-requires c κs = search needs
@@ -30,4 +35,4 @@ returns-2 c =
 pub linteger-spec : {M : Type 1} → statement M
 linteger-spec =
     tie.close
-    (tie.spec following-of-requires past-of-requires returns integer-of-requires word-of-requires returns-2)
+    (tie.spec following-of-requires sub-past-end past-end-requires returns integer-of-requires word-of-requires returns-2)

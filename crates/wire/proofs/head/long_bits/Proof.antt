@@ -1,7 +1,8 @@
 -- `head::long_bits` meets its contract. Assumes nothing.
-use mathlib.Core.Path.{sym}
+use mathlib.Core.Path.{sym, ap, _∙_}
 use Rattle.format.specs.Bits.{bytesFor}
 use Rattle.format.proofs.Choices.{ifEq-yes, ifEq-no}
+use Rattle.wire.specs.declared.head.Head.the-variants.{Stop}
 use Rattle.wire.specs.Heads.{longBits}
 use borrow.Author.Needs.{needs}
 use Rattle.wire.proofs.head.long_bits.Statement.{statement}
@@ -13,9 +14,12 @@ sub-if1 c = search needs
 add-if1 : tie.Need-add-if1
 add-if1 c = search needs
 
+at-requires : tie.Need-at-requires
+at-requires c κs = search needs
+
 returns : tie.Need-returns
 unfolding longBits bytesFor
-returns c = sym (ifEq-no _ _ _ _ (c .if1 .taken))
+returns c = ap Stop (c .at .ensures) ∙ sym (ifEq-no _ _ _ _ (c .before .if1 .taken))
 
 add-t5 : tie.Need-add-t5
 add-t5 c = search needs
@@ -28,4 +32,4 @@ unfolding longBits bytesFor
 returns-2 c = sym (ifEq-yes _ _ _ _ (c .if1 .left))
 
 pub long-bits-spec : {M : Type 1} → statement M
-long-bits-spec = tie.close (tie.spec sub-if1 add-if1 returns add-t5 add-t6 returns-2)
+long-bits-spec = tie.close (tie.spec sub-if1 add-if1 at-requires returns add-t5 add-t6 returns-2)

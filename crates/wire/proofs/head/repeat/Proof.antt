@@ -7,15 +7,19 @@ use Rattle.format.specs.declared.Class.the-variants as C
 use Rattle.format.specs.Objects.{headBy}
 use Rattle.wire.specs.declared.head.Head.the-variants.{Stop}
 use Rattle.wire.specs.Heads.{ContainedIs, CountedIs, HeadIs}
-use Rattle.wire.proofs.HeadLaws.{repeat-outer, repeat-stop, repeat-wrong, repeat-open, lent-length}
+use Rattle.wire.proofs.HeadLaws.{stopped, repeat-outer, repeat-stop, repeat-wrong, repeat-open, lent-length}
 use borrow.Author.Needs.{needs}
 use Rattle.wire.proofs.head.repeat.Statement.{statement}
 use Rattle.wire.proofs.head.repeat.Tie as tie
 
+at-requires : tie.Need-at-requires
+at-requires c κs = search needs
+
 returns : tie.Need-returns
 returns c =
-    subst (λ d. HeadIs (c .before .before .args .s .now) (Stop 7 0) (headBy C.Repeat d 0xc4 (c .before .before .args .s .now))) (sym (c .if1 .taken))
-    (repeat-outer (c .before .before .args .s .now))
+    let s = c .before .before .before .args .s .now in
+    subst (λ d. HeadIs s (Stop (c .at .result)) (headBy C.Repeat d 0xc4 s)) (sym (c .before .if1 .taken))
+    (stopped s _ (c .at .result) _ (c .at .ensures) (repeat-outer s))
 
 contents-of-requires : tie.Need-contents-of-requires
 contents-of-requires c κs = search needs
@@ -73,7 +77,7 @@ sub-t22 c =
 
 returns-2 : tie.Need-returns-2
 returns-2 c =
-    repeat-stop (c .before .before .before .before .before .before .args .depth) (c .before .c .given .0 .0) (c .before .before .before .before .before .before .args .s .now) (c .before .before .before .before .if1 .left)
+    repeat-stop (c .before .before .before .before .before .before .args .depth) (c .before .before .before .before .before .before .args .s .now) (c .before .c .given .0 .0) (c .before .before .before .before .if1 .left)
     (subst (ContainedIs (c .before .before .before .before .before .before .args .depth) (c .before .before .before .before .before .before .args .s .now)) (c .before .c .given .1) (c .before .before .before .contents-of .ensures))
 
 returns-3 : tie.Need-returns-3
@@ -81,7 +85,7 @@ returns-3 c =
     let s = c .before .before .before .before .before .before .before .before .before .before .before .args .s .now in
     let h = c .before .before .before .before .before .before .c2 .given .0 .0 in
     let n = c .before .before .before .before .before .before .c2 .given .0 .1 .0 in
-    repeat-wrong (c .before .before .before .before .before .before .before .before .before .before .before .args .depth) h n (c .before .k .given .0 .0) (c .before .k .given .0 .1 .0) s (c .before .before .before .before .before .before .before .before .before .if1 .left)
+    repeat-wrong (c .before .before .before .before .before .before .before .before .before .before .before .args .depth) h n s (c .before .k .given .0 .0) (c .before .before .before .before .before .before .before .before .before .if1 .left)
     (subst (ContainedIs (c .before .before .before .before .before .before .before .before .before .before .before .args .depth) s) (c .before .before .before .before .before .before .c2 .given .1) (c .before .before .before .before .before .before .before .before .contents-of .ensures))
     (subst (CountedIs 7 h (take (h + n - h) (drop h s))) (c .before .k .given .1) (c .before .before .before .count-of .ensures))
 
@@ -98,6 +102,7 @@ pub repeat-spec : {M : Type 1} → statement M
 repeat-spec =
     tie.close
     (tie.spec
+    at-requires
     returns
     contents-of-requires
     enum-known-c

@@ -6,7 +6,7 @@ use lib.ListN.{getD}
 use Rattle.format.proofs.Digits.{bytes-of}
 use Rattle.format.proofs.OnesLaws.{zeros-ones}
 use Rattle.wire.proofs.ShortBits.{zeros-few}
-use Rattle.wire.proofs.HeadLaws.{sbitstr-stop, sbitstr-bad, sbitstr-short}
+use Rattle.wire.proofs.HeadLaws.{stopped, sbitstr-stop, sbitstr-bad, sbitstr-short}
 use borrow.Author.Needs.{needs}
 use Rattle.wire.proofs.head.sbitstr.Statement.{statement}
 use Rattle.wire.proofs.head.sbitstr.Tie as tie
@@ -14,17 +14,27 @@ use Rattle.wire.proofs.head.sbitstr.Tie as tie
 following-of-requires : tie.Need-following-of-requires
 following-of-requires c κs = search needs
 
-past-of-requires : tie.Need-past-of-requires
-past-of-requires c κs = search needs
+sub-past-end : tie.Need-sub-past-end
+sub-past-end c = search needs
+
+past-end-requires : tie.Need-past-end-requires
+past-end-requires c κs = search needs
 
 returns : tie.Need-returns
-returns c = sbitstr-stop (c .before .before .before .before .args .depth) (c .before .before .before .before .args .b) (c .before .before .following-of .result) (c .past-of .result) (c .before .before .before .before .args .s .now) (c .before .before .following-of .ensures .0) (c .before .if1 .taken) (c .past-of .ensures)
+returns c =
+    let a = c .before .before .before .before .args in
+    sbitstr-stop (a .depth) (a .b) (c .before .before .following-of .result) (a .s .now) (c .past-end .result) (c .before .before .following-of .ensures .0) (c .before .if1 .taken) (c .past-end .ensures)
 
 shared-slice-read-first : tie.Need-shared-slice-read-first
 shared-slice-read-first c = search needs
 
+at-requires : tie.Need-at-requires
+at-requires c κs = search needs
+
 returns-2 : tie.Need-returns-2
-returns-2 c = sbitstr-bad (c .before .before .before .before .before .args .depth) (c .before .before .before .before .before .args .b) (c .before .before .before .following-of .result) (c .before .before .before .before .before .args .s .now) (c .before .before .before .following-of .ensures .0) (omega arith) (c .if2 .taken)
+returns-2 c =
+    let a = c .before .before .before .before .before .before .args in
+    stopped (a .s .now) _ (c .at .result) _ (c .at .ensures) (sbitstr-bad (a .depth) (a .b) (c .before .before .before .before .following-of .result) (a .s .now) (c .before .before .before .before .following-of .ensures .0) (omega arith) (c .before .if2 .taken))
 
 ones-of-requires : tie.Need-ones-of-requires
 ones-of-requires c κs = search needs
@@ -64,9 +74,11 @@ sbitstr-spec =
     tie.close
     (tie.spec
     following-of-requires
-    past-of-requires
+    sub-past-end
+    past-end-requires
     returns
     shared-slice-read-first
+    at-requires
     returns-2
     ones-of-requires
     cast-zeros

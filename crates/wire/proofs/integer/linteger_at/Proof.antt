@@ -12,8 +12,11 @@ following-of-requires c κs = search needs
 add-from : tie.Need-add-from
 add-from c = search needs
 
-sub-if1 : tie.Need-sub-if1
-sub-if1 c = search needs
+sub-there : tie.Need-sub-there
+sub-there c = search needs
+
+sub-t9 : tie.Need-sub-t9
+sub-t9 c = search needs
 
 returns : tie.Need-returns
 returns c = linteger-short (c .before .before .before .args .s .now) (c .before .before .before .args .i) (c .before .before .before .args .b) (c .before .following-of .result) (c .before .following-of .ensures .0) (omega arith)
@@ -30,8 +33,8 @@ part-integer-of-end c = search needs
 integer-of-requires : tie.Need-integer-of-requires
 integer-of-requires c κs = search needs
 
-add-t7 : tie.Need-add-t7
-add-t7 c = search needs
+add-t14 : tie.Need-add-t14
+add-t14 c = search needs
 
 returns-2 : tie.Need-returns-2
 returns-2 c = linteger-found (c .before .before .before .before .before .args .s .now) (c .before .before .before .before .before .args .i) (c .before .before .before .before .before .args .b) (c .before .before .before .following-of .result) _ (c .before .before .before .following-of .ensures .0) (omega arith) (handed _ (c .integer-of .result) (c .integer-of .ok) (c .integer-of .ensures))
@@ -42,11 +45,12 @@ linteger-at-spec =
     (tie.spec
     following-of-requires
     add-from
-    sub-if1
+    sub-there
+    sub-t9
     returns
     sub-integer-of
     part-integer-of-start
     part-integer-of-end
     integer-of-requires
-    add-t7
+    add-t14
     returns-2)

@@ -1,8 +1,8 @@
 -- `size::extent_of` meets its contract. Assumes nothing.
-use Prim.Native.Nat.{_+_, min}
+use Prim.Native.Nat.{_+_, _-_, min}
 use mathlib.Core.Path.{_≡_, refl, sym, subst}
 use native.Mathlib.Omega.{arith}
-use lib.ListN.{take, drop}
+use lib.ListN.{length, take, drop}
 use Rattle.format.specs.Numbers.{val}
 use Rattle.wire.specs.Extents.{ExtentIs}
 use Rattle.wire.proofs.Sizes.{extent-cut, extent-is, size-none, size-zero, size-short, size-long, size-long-cut}
@@ -11,7 +11,7 @@ use Rattle.wire.proofs.size.extent_of.Statement.{statement}
 use Rattle.wire.proofs.size.extent_of.Tie as tie
 
 returns : tie.Need-returns
-returns c = extent-cut (c .before .before .args .s .now) (size-none (c .before .before .args .s .now) (omega arith))
+returns c = extent-cut (c .before .before .args .s .now) 1 (size-none (c .before .before .args .s .now) (omega arith))
 
 shared-slice-read-b : tie.Need-shared-slice-read-b
 shared-slice-read-b c = search needs
@@ -34,20 +34,23 @@ extent-at-requires-2 c κs = search needs
 returns-3 : tie.Need-returns-3
 returns-3 c =
     let s = c .before .before .before .before .before .before .before .args .s .now in
-    let e : c .before .wide .result ≡ min (lib.ListN.getD s 0 0) 65537 = omega arith in
+    let e : c .before .wide .result ≡ min (lib.ListN.getD s 0 0) 131072 = omega arith in
     subst (ExtentIs s) (sym (c .extent-at2 .ensures))
     (extent-is s 1 (lib.ListN.getD s 0 0) (c .before .wide .result) (size-short s (omega arith) (c .before .before .if3 .taken) (c .before .before .before .if2 .left)) e (omega arith) (omega arith))
 
 long-count-requires : tie.Need-long-count-requires
 long-count-requires c κs = search needs
 
-sub-if4 : tie.Need-sub-if4
-sub-if4 c = search needs
+sub-there : tie.Need-sub-there
+sub-there c = search needs
+
+sub-t11 : tie.Need-sub-t11
+sub-t11 c = search needs
 
 returns-4 : tie.Need-returns-4
 returns-4 c =
     let s = c .before .before .before .before .before .before .before .args .s .now in
-    extent-cut s (size-long-cut s (c .before .long-count .result) (omega arith) (omega arith) (c .before .long-count .ensures) (omega arith))
+    extent-cut s (c .before .long-count .result - (length s - 1)) (size-long-cut s (c .before .long-count .result) (omega arith) (omega arith) (c .before .long-count .ensures) (omega arith))
 
 long-size-requires : tie.Need-long-size-requires
 long-size-requires c κs = search needs
@@ -78,7 +81,8 @@ extent-of-spec =
     extent-at-requires-2
     returns-3
     long-count-requires
-    sub-if4
+    sub-there
+    sub-t11
     returns-4
     long-size-requires
     add-extent-at

@@ -9,7 +9,7 @@ use Rattle.wire.proofs.size.long_size.Statement.{statement}
 use Rattle.wire.proofs.size.long_size.Tie as tie
 
 abbrev Inv-loop : tie.InvT-loop
-Inv-loop s k n₀ i₀ n i = (i ≤ k) × (n ≡ min (val (take i (drop 1 s))) 65537)
+Inv-loop s k n₀ i₀ n i = (i ≤ k) × (n ≡ min (val (take i (drop 1 s))) 131072)
 
 abbrev μ-loop : tie.MeasureT-loop
 μ-loop s k n₀ i₀ n i = k - i

@@ -1,4 +1,6 @@
-//! The messages that are measured.
+//! The messages that are measured. One that is refused has no table to write, and
+//! comes last: `instructions.sh` counts each operation's loads up to the first
+//! that it does not take.
 
 pub struct Load {
     pub name: &'static str,
@@ -75,6 +77,13 @@ fn measure_sheet() -> Vec<u8> {
     )
 }
 
+/// A batch of measure sheets whose last sheet lacks its last six bytes.
+fn sheets_cut_short() -> Vec<u8> {
+    let mut sheets = measure_sheet().repeat(700);
+    sheets.truncate(sheets.len() - 6);
+    sheets
+}
+
 /// One object of each atomic class, so that no two neighbours are of one class.
 fn each_atomic() -> Vec<u8> {
     [
@@ -146,5 +155,6 @@ pub fn loads() -> Vec<Load> {
         load("a mixed message", letter().repeat(160)),
         load("one measure sheet", measure_sheet()),
         load("seven hundred of them", measure_sheet().repeat(700)),
+        load("the same, the last cut short", sheets_cut_short()),
     ]
 }

@@ -16,8 +16,18 @@ use std::process::ExitCode;
 /// An operation as both programs do it.
 struct Operation {
     name: &'static str,
+    /// Whether it is given a table, which a message that is refused has not.
+    of_table: bool,
     library: Call,
     second: Call,
+}
+
+impl Operation {
+    /// What a load lends to this operation, if there is something to give it.
+    fn lent(&self, load: &Load) -> Option<Buffers> {
+        let lent = Buffers::new(&load.message);
+        (!self.of_table || !lent.given.is_empty()).then_some(lent)
+    }
 }
 
 /// Slices are never empty here.
@@ -26,6 +36,7 @@ const EMPTY: library::Empty = library::Empty::AsItIs;
 const OPERATIONS: [Operation; 4] = [
     Operation {
         name: "read",
+        of_table: false,
         library: |lent| {
             black_box(library::read(&lent.message, &mut lent.table, EMPTY));
         },
@@ -35,6 +46,7 @@ const OPERATIONS: [Operation; 4] = [
     },
     Operation {
         name: "write",
+        of_table: true,
         library: |lent| {
             black_box(library::write(&lent.given, &mut lent.output, EMPTY));
         },
@@ -44,6 +56,7 @@ const OPERATIONS: [Operation; 4] = [
     },
     Operation {
         name: "normal_length",
+        of_table: true,
         library: |lent| {
             black_box(library::normal_length(&lent.given, EMPTY));
         },
@@ -53,6 +66,7 @@ const OPERATIONS: [Operation; 4] = [
     },
     Operation {
         name: "normalise",
+        of_table: false,
         library: |lent| {
             let (table, output) = (&mut lent.table, &mut lent.output);
             black_box(library::normalise(&lent.message, table, output, EMPTY));
@@ -85,7 +99,7 @@ fn each(time: f64, units: usize) -> String {
 
 fn line(load: &Load, lent: &Buffers, times: &Times) {
     let bytes = lent.message.len();
-    let rows = lent.given[0] as usize;
+    let rows = lent.rows();
     let Times {
         library,
         second,
@@ -121,11 +135,11 @@ fn only(words: &[String]) -> Option<()> {
         "second" => operation.second,
         _ => return None,
     };
-    let mut lent = Buffers::new(&load.message);
+    let mut lent = operation.lent(&load)?;
     for _ in 0..calls.parse::<usize>().ok()? {
         call(black_box(&mut lent));
     }
-    println!("{}|{}|{}", load.name, lent.message.len(), lent.given[0]);
+    println!("{}|{}|{}", load.name, lent.message.len(), lent.rows());
     Some(())
 }
 
@@ -140,7 +154,9 @@ fn main() -> ExitCode {
     for operation in OPERATIONS {
         head(&operation);
         for load in loads() {
-            let mut lent = Buffers::new(&load.message);
+            let Some(mut lent) = operation.lent(&load) else {
+                continue;
+            };
             let times = measure(&mut lent, operation.library, operation.second, store_words);
             line(&load, &lent, &times);
         }

@@ -10,7 +10,7 @@ const ROUND: f64 = 300_000.0;
 /// What a call is given and lent.
 pub struct Buffers {
     pub message: Vec<u8>,
-    /// The message's table, to be written.
+    /// The message's table, to be written; no words if the message is refused.
     pub given: Vec<u64>,
     pub table: Vec<u64>,
     pub output: Vec<u8>,
@@ -26,6 +26,11 @@ impl Buffers {
             table,
             output: vec![0; 65_536],
         }
+    }
+
+    /// The rows of the message's table.
+    pub fn rows(&self) -> usize {
+        self.given.first().map_or(0, |&rows| rows as usize)
     }
 }
 

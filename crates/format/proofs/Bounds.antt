@@ -26,13 +26,13 @@ HeadWithin d n (O.opens w h m) = (h + m ≤ n) × (d < 16)
 
 abbrev LedWithin : ℕ → O.Leading → Type 0
 LedWithin n O.absent = Unit {0}
-LedWithin n (O.short p) = p < n
+LedWithin n (O.short p k) = p < n
 LedWithin n (O.found z u) = u ≤ n
 
 led-later : (n : ℕ) (x : O.Leading) → LedWithin n x → LedWithin (suc n) (O.later x)
 unfolding O.later
 led-later n O.absent g = tt
-led-later n (O.short p) g = omega arith
+led-later n (O.short p k) g = omega arith
 led-later n (O.found z u) g = omega arith
 
 led-by : (c : Class) (b : ℕ) (s : List ℕ) → LedWithin (length s) (O.leading s) → LedWithin (suc (length s)) (O.leadingBy c b s (O.leading s))
@@ -70,7 +70,7 @@ module _ (d : ℕ) (s : List ℕ) where
   extent-within : (f : ℕ → ℕ → O.Head) (x : O.Size) → SizeFits s x → ((h n : ℕ) → h + n ≤ length s → HeadWithin d (length s) (f h n))
       → HeadWithin d (length s) (O.within d s f x)
   unfolding O.within
-  extent-within f O.cut z g = zero-le
+  extent-within f (O.cut k) z g = zero-le
   extent-within f (O.size h n) z g = byLt (HeadWithin d (length s)) (length s - h) n (λ l. zero-le) (λ l. g h n (omega arith))
 
   sized-within : (f : ℕ → ℕ → O.Head) → ((h n : ℕ) → h + n ≤ length s → HeadWithin d (length s) (f h n)) → HeadWithin d (length s) (O.sized d s f)
@@ -81,7 +81,7 @@ module _ (d : ℕ) (s : List ℕ) where
       → ((k u : ℕ) → u ≤ n → HeadWithin d (length s) (f k u)) → HeadWithin d (length s) (O.counted why h f x)
   unfolding O.counted
   count-within why h n f O.absent l q g = zero-le
-  count-within why h n f (O.short p) l q g = omega arith
+  count-within why h n f (O.short p k) l q g = omega arith
   count-within why h n f (O.found (pos k) u) l q g = g k u q
   count-within why h n f (O.found (negsuc k) u) l q g = zero-le
 

@@ -1,0 +1,70 @@
+// A refusal of a message, one value from where a fault is met to the answer: made here, and moved outward here.
+ghost use mathlib.Core.Path.{_≡_};
+ghost use Prim.Native.Nat.{_+_, _^_, _<_, min};
+ghost use Rattle.format.specs.Refusals as R;
+
+// The numbers, each written here alone.
+pub const PAST_INPUT: usize = 2;
+
+pub const PAST_ENCLOSING: usize = 3;
+
+pub const UNASSIGNED: usize = 4;
+
+pub const TOO_DEEP: usize = 5;
+
+pub const BAD_BITS: usize = 6;
+
+pub const BAD_REPEAT: usize = 7;
+
+pub const SEVERAL_KINDS: usize = 8;
+
+pub const BAD_EDT: usize = 9;
+
+// The number; the offset of the faulty object's type-byte, from the start of what is being read; and with 2 and 3 the bytes that
+// are missing, otherwise 0.
+pub struct Fault {
+    pub number: usize,
+    pub place: usize,
+    pub missing: usize,
+}
+
+// A fault for which no bytes are missing.
+pub fn at(place: usize, number: usize) -> Fault
+    ensures { λ r. ⌜ r ≡ R.at place number ⌝ }
+{
+    Fault {
+        number,
+        place,
+        missing: 0,
+    }
+}
+
+// Missing bytes are told up to 65,536.
+fn told(k: usize) -> usize
+    ensures { λ r. ⌜ r ≡ min k 65536 ⌝ }
+{
+    if k <= 65536 { k } else { 65536 }
+}
+
+// One for which k bytes are missing.
+pub fn wants(place: usize, number: usize, k: usize) -> Fault
+    ensures { λ r. ⌜ r ≡ R.wants place number k ⌝ }
+{
+    Fault {
+        number,
+        place,
+        missing: told(k),
+    }
+}
+
+// A fault of what stands n bytes further on.
+pub fn further(n: usize, f: Fault) -> Fault
+    requires { ⌜ n + f .place < 2 ^ 64 ⌝ }
+    ensures { λ r. ⌜ r ≡ R.further n f ⌝ }
+{
+    Fault {
+        number: f.number,
+        place: n + f.place,
+        missing: f.missing,
+    }
+}
