@@ -3,7 +3,6 @@ pub mod CopyLaws
 pub mod AgainLaws
 pub mod Doubling
 pub mod RowFill
-pub mod WithinLaws
 pub mod Turns
 pub mod RowLaws
 pub mod PlainLaws

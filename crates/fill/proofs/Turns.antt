@@ -11,8 +11,8 @@ use Rattle.format.specs.Messages.{Outcome, refused, says, Object, bad, got, ont
 use Rattle.format.proofs.Counts.{join-end}
 use Rattle.format.proofs.Parts.{rest-part}
 use Rattle.format.proofs.Steps.{reads-nil, reads-cons, objectAt}
+use Rattle.format.proofs.Bounds.{got-within}
 use Rattle.format.proofs.Growing.{onto-none, onto-onto}
-use Rattle.fill.proofs.WithinLaws.{got-within}
 
 pub onto-said : (xs : Items) (i : ℕ) (o : Outcome) (all : Items) → onto xs i o ≡ says all → (zs : Items) × (all ≡ join xs zs)
 unfolding onto

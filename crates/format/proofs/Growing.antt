@@ -255,7 +255,7 @@ module _ (d : ℕ) (t : List ℕ) where
       e ∙ ap (onto ys (1 + u)) g ∙ onto-onto ys zs (1 + u) (length (drop u s)) (reads d t)
       ∙ ap (λ n. onto (join ys zs) n (reads d t)) (let k : 1 + u + length (drop u s) ≡ suc (length s) = omega (arith, length-drop u s) in k)
 
-  next-grown : (b : ℕ) (s : List ℕ) (x : Object) → ObjectGrown d (length t) x (objectAt d b (s ++ t)) → ObjectWithin (length s) x
+  next-grown : (b : ℕ) (s : List ℕ) (x : Object) → ObjectGrown d (length t) x (objectAt d b (s ++ t)) → ObjectWithin d (length s) x
       → ((u : ℕ) → RunGrown (drop u s) (reads d (drop u s))) → RunGrown (b ∷ s) (next x (λ u. reads d (drop u s)))
   unfolding next
   next-grown b s (bad f) k w r =

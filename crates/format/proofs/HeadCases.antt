@@ -20,16 +20,16 @@ use Rattle.format.proofs.Sizes.{SizeFits, size-fits}
 use Rattle.format.proofs.TypeBytes.{InClass, in-class, following-range}
 use Rattle.format.proofs.Shortest.{small-shortest, integer-shortest}
 
--- ---- a leading integer lies within the bytes it was read from, and the normal one is not longer; one that is cut short wants some
+-- ---- a leading integer lies within the bytes it was read from, and the normal one is not longer
 abbrev pub Led : List ℕ → Leading → Type 0
 Led s absent = Unit {0}
-Led s (short p k) = 0 < k
+Led s (short p k) = Unit {0}
 Led s (found z u) = (u ≤ length s) × (Bytes s → length (normalInt z) ≤ u)
 
 led-later : (b : ℕ) (s : List ℕ) (x : Leading) → Led s x → Led (b ∷ s) (later x)
 unfolding later
 led-later b s absent g = tt
-led-later b s (short p k) g = g
+led-later b s (short p k) g = tt
 led-later b s (found z u) g = (omega arith, λ a. omega (arith, g .1 (a .1)))
 
 led-long : (b k : ℕ) (s : List ℕ) → 0 < k → k ≤ length s → Led (b ∷ s) (found (integer (take k s)) (1 + k))
@@ -41,7 +41,7 @@ led-by : (c : Class) (b : ℕ) (s : List ℕ) → InClass b c → Led s (leading
 unfolding leadingBy
 led-by Sinteger b s r g = (omega arith, λ a. small-shortest (b - 0x80) (omega arith))
 led-by Linteger b s r g =
-    byLt (Led (b ∷ s)) (length s) (following b) (λ l. omega arith) (λ h. led-long b (following b) s (following-range b .0) h)
+    byLt (Led (b ∷ s)) (length s) (following b) (λ l. tt) (λ h. led-long b (following b) s (following-range b .0) h)
 led-by Padding b s r g = led-later b s (leading s) g
 led-by Char7 b s r g = tt
 led-by Sbitstr b s r g = tt

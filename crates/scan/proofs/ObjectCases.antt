@@ -148,8 +148,8 @@ module _ (d b : ℕ) (s : List ℕ) (r : Head) (t : HeadIs s r (O.headOf d b s))
     unfolding O.contents
     open-place f y =
         let l : length (take (a + n - a) (drop a s)) ≡ n = ap length (middle-part s a n) ∙ contents-length s a n (open-fits .0) in
-        subst (RunWithin n) (refused-run f inner y)
-        (subst (λ k. RunWithin k inner) l (reads-within (d + 1) (take (a + n - a) (drop a s))))
+        subst (RunWithin (d + 1) n) (refused-run f inner y)
+        (subst (λ k. RunWithin (d + 1) k inner) l (reads-within (d + 1) (take (a + n - a) (drop a s)))) .0
 
     pub open-refused : (f : Fault) → Refused f ≡ answer inner → Bad (further (1 + a) f) ≡ answerObject (objectAt d b s)
     unfolding around answerObject

@@ -150,7 +150,7 @@ module _ (d b : ℕ) (c : List ℕ) where
       chars-accepted z a y = ap (asObject (1 + length c)) (ap Accepted y ∙ sym (ifEq-yes _ _ _ _ (sym e ∙ z))) ∙ chars-are
 
     pub short-place : (f : Fault) → Refused f ≡ answer (reads (d + 1) c) → f .place < length c
-    short-place f y = subst (RunWithin (length c)) (refused-run f (reads (d + 1) c) y) (reads-within (d + 1) c)
+    short-place f y = subst (RunWithin (d + 1) (length c)) (refused-run f (reads (d + 1) c) y) (reads-within (d + 1) c) .0
 
     pub short-refused : (f x : Fault) → x ≡ further 2 f → Refused f ≡ answer (reads (d + 1) c) → asObject (1 + length c) (Refused x) ≡ answerObject (shortObject d b c)
     unfolding asObject around answerObject

@@ -74,10 +74,10 @@ module _ (d : ℕ) (s : List ℕ) (i : ℕ) (a : Summary) (v : Inv d s i a) wher
     here-is : here ≡ objectAt d (getD s i 0) (drop (i + 1) s)
     here-is = ap (objectAt d (getD s i 0)) (rest-part s (i + 1))
 
-    here-within : (x : Object) → here ≡ x → ObjectWithin (length s - (i + 1)) x
+    here-within : (x : Object) → here ≡ x → ObjectWithin d (length s - (i + 1)) x
     here-within x e =
-        subst (ObjectWithin (length s - (i + 1))) (sym here-is ∙ e)
-        (subst (λ n. ObjectWithin n (objectAt d (getD s i 0) (drop (i + 1) s))) (length-drop (i + 1) s) (at-within d (getD s i 0) (drop (i + 1) s)))
+        subst (ObjectWithin d (length s - (i + 1))) (sym here-is ∙ e)
+        (subst (λ n. ObjectWithin d n (objectAt d (getD s i 0) (drop (i + 1) s))) (length-drop (i + 1) s) (at-within d (getD s i 0) (drop (i + 1) s)))
 
     here-next : (x : Object) → here ≡ x → reads d (drop i s) ≡ next x (λ u. reads d (drop (i + (1 + u)) s))
     here-next x e = turn d s i h ∙ ap (λ o. next o (λ u. reads d (drop (i + (1 + u)) s))) (sym here-is ∙ e)
@@ -86,7 +86,7 @@ module _ (d : ℕ) (s : List ℕ) (i : ℕ) (a : Summary) (v : Inv d s i a) wher
     unfolding next onto answer
     bad-turn f e =
         let x : here ≡ bad f = bad-object f here e in
-        let l : f .place ≤ length s - (i + 1) = here-within (bad f) x in
+        let l : f .place ≤ length s - (i + 1) = here-within (bad f) x .0 in
         (omega arith, sym (ap answer (v .so-far ∙ ap (onto (v .items) i) (here-next (bad f) x))))
 
     pub got-turn : (b : Summary) (u : ℕ) → Got b u ≡ answerObject here → (c : Summary) → c ≡ plusOf a b → (i + (1 + u) ≤ length s) × Inv d s (i + (1 + u)) c
