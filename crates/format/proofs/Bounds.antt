@@ -14,7 +14,7 @@ use Rattle.format.specs.declared.fault.Fault.{Fault}
 use Rattle.format.specs.Items.{Items, uniform, edtRule}
 use Rattle.format.specs.Classes.{classOf}
 use Rattle.format.specs.Bits.{bytesFor}
-use Rattle.format.specs.Refusals.{at, wants, further, byteLimit}
+use Rattle.format.specs.Refusals.{here, wants, further, byteLimit}
 use Rattle.format.specs.Objects as O
 use Rattle.format.specs.Messages.{Outcome, refused, says, Object, bad, got, closing, around, object, onto, next, run, reads}
 use Rattle.format.proofs.Choices.{byLt, byEq, byPick}
@@ -45,10 +45,10 @@ HeadWithin d n (O.gives xs u) = u ≤ n
 HeadWithin d n (O.opens w h m) = (h + m ≤ n) × (d < 16)
 
 -- at its own type-byte: for the want of k bytes, or for another reason
-wanting : (d n k : ℕ) → 0 < k → HeadWithin d n (O.stop (wants 0 (O.past d) k))
+wanting : (d n k : ℕ) → 0 < k → HeadWithin d n (O.stop (wants (O.past d) k))
 wanting d n k g = (zero-le, inl (omega arith, past-range d .1, omega arith, omega arith))
 
-other : (d n why : ℕ) → 4 ≤ why → why ≤ 9 → (0 ≤ n) × Lacking d (at 0 why)
+other : (d n why : ℕ) → 4 ≤ why → why ≤ 9 → (0 ≤ n) × Lacking d (here why)
 other d n why a b = (zero-le, inr (a, b, refl))
 
 abbrev LedWithin : ℕ → O.Leading → Type 0

@@ -12,8 +12,8 @@ use Rattle.format.specs.Messages.{refused, reads, outcome}
 use Rattle.format.proofs.Bounds.{Lacking, RunWithin, reads-within}
 
 -- two refusals for the want of bytes, of which as many are told
-pub wants-alike : (p n k j : ℕ) → min k byteLimit ≡ min j byteLimit → wants p n k ≡ wants p n j
-wants-alike p n k j e = let lacking : ℕ → Fault = λ i. record { number = n; place = p; missing = i } in ap lacking e
+pub wants-alike : (n k j : ℕ) → min k byteLimit ≡ min j byteLimit → wants n k ≡ wants n j
+wants-alike n k j e = let lacking : ℕ → Fault = λ i. record { number = n; place = 0; missing = i } in ap lacking e
 
 -- where it is, and what is missing
 within : (d : ℕ) (s : List ℕ) (f : Fault) → reads d s ≡ refused f → (f .place < length s) × Lacking d f

@@ -9,7 +9,7 @@ use mathlib.Core.List.{List, [], _∷_}
 use lib.ListN.{length, drop}
 use lib.Dec.{eqb}
 use Rattle.format.specs.Choice.{pick, ifEq, both, either}
-use Rattle.format.specs.Refusals.{several-kinds, bad-edt, at, further}
+use Rattle.format.specs.Refusals.{several-kinds, bad-edt, here, further}
 use Rattle.format.specs.Items.{struc, edt, Items, end, leaf, group, times, INT, CHAR, STRUC, EDT, leafKind, groupKind, kinds, allOf, alike, isString, uniform, startsInt, startsString, behind, edtRule}
 use Rattle.format.specs.Objects.{Wrap, as-struc, as-ustruc, as-edt, repeated, Head, stop, gives, opens, contents, headOf}
 use Rattle.format.specs.Messages.{Outcome, refused, says, Object, bad, got, closing, around, object, onto, next, run, reads, outcome}
@@ -34,8 +34,8 @@ edtBefore (k ∷ l ∷ ks) = both (either (eqb k INT) (eqb k 9)) (eqb l INT)
 unfoldable pub closingBefore : Wrap → ℕ → Items → Object
 unfolding pick alike edtBefore kindsBefore times
 closingBefore as-struc u xs = got (group struc xs end) u
-closingBefore as-ustruc u xs = pick (alike (kindsBefore xs)) (got (group struc xs end) u) (bad (at 0 several-kinds))
-closingBefore as-edt u xs = pick (edtBefore (kindsBefore xs)) (got (group edt xs end) u) (bad (at 0 bad-edt))
+closingBefore as-ustruc u xs = pick (alike (kindsBefore xs)) (got (group struc xs end) u) (bad (here several-kinds))
+closingBefore as-edt u xs = pick (edtBefore (kindsBefore xs)) (got (group edt xs end) u) (bad (here bad-edt))
 closingBefore (repeated k) u xs = got (times k xs) u
 
 unfoldable pub aroundBefore : Wrap → ℕ → ℕ → Outcome → Object
@@ -186,6 +186,6 @@ unfolding outcomeBefore outcome reads
 kept m = kept-run (length m) 0 m
 
 -- and less often it is: the ask's own message was refused with 8 at 0
-pub refused-before : outcomeBefore (0xc5 ∷ 0x06 ∷ 0xc5 ∷ 0x01 ∷ 0x41 ∷ 0xc2 ∷ 0x01 ∷ 0x81 ∷ []) ≡ refused (at 0 several-kinds)
+pub refused-before : outcomeBefore (0xc5 ∷ 0x06 ∷ 0xc5 ∷ 0x01 ∷ 0x41 ∷ 0xc2 ∷ 0x01 ∷ 0x81 ∷ []) ≡ refused (here several-kinds)
 unfolding outcomeBefore
 refused-before = refl

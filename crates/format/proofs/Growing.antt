@@ -52,11 +52,11 @@ onto-onto xs ys i n (says zs) = ap says (sym (join-assoc xs ys zs))
 -- ---- a refusal f with n bytes more behind: it stays, and is not 2; or it was for the want of bytes up to the end, by the number
 -- `why`, and wants n fewer. `Is` says what is met then.
 abbrev pub Grown : ℕ → ℕ → Fault → (Fault → Type 0) → Type 0
-Grown why n f Is = ((2 < f .number) × Is f) ⊎ ((p : ℕ) × (k : ℕ) × (f ≡ wants p why k) × (n < k → Is (wants p why (k - n))))
+Grown why n f Is = ((2 < f .number) × Is f) ⊎ ((p : ℕ) × (k : ℕ) × (f ≡ further p (wants why k)) × (n < k → Is (further p (wants why (k - n)))))
 
 grown-by : (why n : ℕ) (f : Fault) (P Q : Fault → Type 0) → ((g : Fault) → P g → Q g) → Grown why n f P → Grown why n f Q
 grown-by why n f P Q h (inl x) = inl (x .0, h f (x .1))
-grown-by why n f P Q h (inr x) = inr (x .0, x .1, x .2, λ l. h (wants (x .0) why (x .1 - n)) (x .3 l))
+grown-by why n f P Q h (inr x) = inr (x .0, x .1, x .2, λ l. h (further (x .0) (wants why (x .1 - n))) (x .3 l))
 
 -- ---- a size: the same, or so many fewer of its bytes wanting
 abbrev SizeGrown : ℕ → O.Size → O.Size → Type 0
@@ -120,7 +120,7 @@ counted-final why h f (O.found (negsuc k) u) l g = l
 
 module _ (d : ℕ) (s t : List ℕ) where
   fixed-grown : (k : ℕ) (f : List ℕ → O.Head) → ((p : List ℕ) → Final (f p)) → HeadGrown d (length t) (O.fixed d k s f) (O.fixed d k (s ++ t) f)
-  unfolding O.fixed
+  unfolding O.fixed further
   fixed-grown k f g =
       byLt (λ x. HeadGrown d (length t) x (O.fixed d k (s ++ t) f)) (length s) k
       (λ l. inr (
@@ -129,7 +129,7 @@ module _ (d : ℕ) (s t : List ℕ) where
         refl,
         λ m.
             let e : k - length (s ++ t) ≡ k - length s - length t = omega (arith, length-append s t) in
-            ifLt-yes (length (s ++ t)) k _ _ (omega (arith, length-append s t)) ∙ ap (λ j. O.stop (wants 0 (O.past d) j)) e,
+            ifLt-yes (length (s ++ t)) k _ _ (omega (arith, length-append s t)) ∙ ap (λ j. O.stop (wants (O.past d) j)) e,
       ))
       (λ l. head-same d (length t) (f (take k s)) (O.fixed d k (s ++ t) f)
       (ifLt-no (length (s ++ t)) k _ _ (omega (arith, length-append s t)) ∙ ap f (take-append-le k s t l)) (g (take k s)))
@@ -140,7 +140,7 @@ module _ (d : ℕ) (s t : List ℕ) where
 
   module _ (f g : ℕ → ℕ → O.Head) (same : (h n : ℕ) → h + n ≤ length s → g h n ≡ f h n) (final : (h n : ℕ) → Final (f h n)) where
     within-grown : (x z : O.Size) → SizeFits s x → SizeGrown (length t) x z → HeadGrown d (length t) (O.within d s f x) (O.within d (s ++ t) g z)
-    unfolding O.within
+    unfolding O.within further
     within-grown (O.cut k) z i e = inr (0, k, refl, λ l. ap (O.within d (s ++ t) g) (e l))
     within-grown (O.size h n) z i e =
         subst (λ y. HeadGrown d (length t) (O.within d s f (O.size h n)) (O.within d (s ++ t) g y)) (sym e)
@@ -151,7 +151,7 @@ module _ (d : ℕ) (s t : List ℕ) where
           refl,
           λ m.
               let q : n - (length (s ++ t) - h) ≡ n - (length s - h) - length t = omega (arith, length-append s t, i .0) in
-              ifLt-yes (length (s ++ t) - h) n _ _ (omega (arith, length-append s t, i .0)) ∙ ap (λ j. O.stop (wants 0 (O.past d) j)) q,
+              ifLt-yes (length (s ++ t) - h) n _ _ (omega (arith, length-append s t, i .0)) ∙ ap (λ j. O.stop (wants (O.past d) j)) q,
         ))
         (λ l. head-same d (length t) (f h n) _ (ifLt-no (length (s ++ t) - h) n _ _ (omega (arith, length-append s t)) ∙ same h n (omega (arith, i .0))) (final h n)))
 
@@ -247,10 +247,11 @@ module _ (d : ℕ) (t : List ℕ) where
 
   onto-grown : (b u : ℕ) (s : List ℕ) (ys : Items) (z : Outcome) → u ≤ length s → reads d (b ∷ (s ++ t)) ≡ onto ys (1 + u) (reads d (drop u s ++ t))
       → RunGrown (drop u s) z → RunGrown (b ∷ s) (onto ys (1 + u) z)
-  unfolding onto further
+  unfolding onto
   onto-grown b u s ys (refused f) l e (inl x) = inl (x .0, e ∙ ap (onto ys (1 + u)) (x .1))
   onto-grown b u s ys (refused f) l e (inr x) =
-      inr (1 + u + x .0, x .1, ap (further (1 + u)) (x .2), λ m. e ∙ ap (onto ys (1 + u)) (x .3 m))
+      let out = further-further (1 + u) (x .0) in
+      inr (1 + u + x .0, x .1, ap (further (1 + u)) (x .2) ∙ out _, λ m. e ∙ ap (onto ys (1 + u)) (x .3 m) ∙ ap refused (out _))
   onto-grown b u s ys (says zs) l e g =
       e ∙ ap (onto ys (1 + u)) g ∙ onto-onto ys zs (1 + u) (length (drop u s)) (reads d t)
       ∙ ap (λ n. onto (join ys zs) n (reads d t)) (let k : 1 + u + length (drop u s) ≡ suc (length s) = omega (arith, length-drop u s) in k)
@@ -301,14 +302,14 @@ pub record Waits (n : ℕ) (f g : Fault) : Type 0 where
 -- with 2, and fewer bytes more than it tells, it is 2 at the same place again, and tells so many fewer
 pub waits : (m e : List ℕ) (f : Fault) → outcome m ≡ refused f → f .number ≡ 2 → length e < f .missing
     → (g : Fault) × (outcome (m ++ e) ≡ refused g) × Waits (length e) f g
-unfolding outcome O.past
+unfolding outcome O.past further
 waits m e f q n l = go (subst (RunGrown 0 e m) q (reads-grown 0 e m))
   where
-    told : (p k : ℕ) → f ≡ wants p 2 k → (length e < k) × Waits (length e) f (wants p 2 (k - length e))
+    told : (p k : ℕ) → f ≡ further p (wants 2 k) → (length e < k) × Waits (length e) f (further p (wants 2 (k - length e)))
     told p k x =
         let a : f .missing ≡ min k byteLimit = ap (λ (g : Fault). g .missing) x in
         (omega arith, record { still = refl; there = ap (λ (g : Fault). g .place) (sym x); least = omega arith; fewer = λ h. omega arith })
 
     go : Grown 2 (length e) f (λ g. reads 0 (m ++ e) ≡ refused g) → (g : Fault) × (reads 0 (m ++ e) ≡ refused g) × Waits (length e) f g
     go (inl x) = absurd (omega (arith, x .0))
-    go (inr x) = let y = told (x .0) (x .1) (x .2) in (wants (x .0) 2 (x .1 - length e), x .3 (y .0), y .1)
+    go (inr x) = let y = told (x .0) (x .1) (x .2) in (further (x .0) (wants 2 (x .1 - length e)), x .3 (y .0), y .1)

@@ -5,7 +5,7 @@ use mathlib.Core.List.{List, [], _∷_}
 use lib.ListN.{length, drop}
 use Rattle.format.specs.Choice.{pick, both}
 use Rattle.format.specs.declared.fault.Fault.{Fault}
-use Rattle.format.specs.Refusals.{several-kinds, bad-edt, at, further}
+use Rattle.format.specs.Refusals.{several-kinds, bad-edt, here, further}
 use Rattle.format.specs.Items.{struc, edt, Items, end, group, join, times, uniform, edtRule}
 use Rattle.format.specs.Objects.{Wrap, as-struc, as-ustruc, as-edt, repeated, Head, stop, gives, opens, contents, headOf}
 
@@ -24,9 +24,9 @@ unfoldable pub closing : Wrap → ℕ → Items → Object
 unfolding pick uniform edtRule times
 closing as-struc u xs = got (group struc xs end) u
 -- 8: "USTRUC of several kinds"
-closing as-ustruc u xs = pick (uniform xs) (got (group struc xs end) u) (bad (at 0 several-kinds))
+closing as-ustruc u xs = pick (uniform xs) (got (group struc xs end) u) (bad (here several-kinds))
 -- 9: "EDT without its first two elements as required"
-closing as-edt u xs = pick (edtRule xs) (got (group edt xs end) u) (bad (at 0 bad-edt))
+closing as-edt u xs = pick (edtRule xs) (got (group edt xs end) u) (bad (here bad-edt))
 closing (repeated k) u xs = got (times k xs) u
 
 -- contents that start at `h` past the type-byte, `n` bytes: their faults come before the container's own

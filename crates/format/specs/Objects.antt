@@ -8,7 +8,7 @@ use Rattle.format.specs.Choice.{ifLt, ifEq}
 use Rattle.format.specs.Numbers.{val, signed}
 use Rattle.format.specs.Bits.{isOne, spread, bytesFor, afterMarker}
 use Rattle.format.specs.declared.fault.Fault.{Fault}
-use Rattle.format.specs.Refusals.{past-input, past-enclosing, unassigned, too-deep, bad-bits, bad-repeat, at, wants, depthLimit}
+use Rattle.format.specs.Refusals.{past-input, past-enclosing, unassigned, too-deep, bad-bits, bad-repeat, here, wants, further, depthLimit}
 use Rattle.format.specs.Items.{int, bits, char, bool, empty, xtra, struc, Items, end, leaf, group, one}
 use Rattle.format.specs.declared.Class.{Class}
 use Rattle.format.specs.declared.Class.the-variants.{Char7, Sinteger, Linteger, Sbitstr, Lbitstr, String, Struc, Ustruc, Edt, Repeat, Xtra, Bool, Empty, Padding, Reserved}
@@ -40,7 +40,7 @@ following b = ifEq (b % 8) 0 8 (b % 8)
 -- k bytes behind the type-byte, if they are there; if not, "how many bytes are wanting"
 unfoldable pub fixed : ℕ → ℕ → List ℕ → (List ℕ → Head) → Head
 unfolding ifLt past
-fixed d k s f = ifLt (length s) k (stop (wants 0 (past d) (k - length s))) (f (take k s))
+fixed d k s f = ifLt (length s) k (stop (wants (past d) (k - length s))) (f (take k s))
 
 -- "LINTEGER: two's complement, high byte first"
 unfoldable pub integer : List ℕ → ℤ
@@ -54,8 +54,8 @@ lintegerHead p = gives (one (int (integer p))) (length p)
 -- "SBITSTR: the first 1 in the first data byte is a marker; the bits after it, to the end of the last byte, are the stream."
 unfoldable pub sbitstrHead : List ℕ → Head
 unfolding ifEq spread afterMarker
-sbitstrHead [] = stop (at 0 bad-bits)
-sbitstrHead (b ∷ p) = ifEq b 0 (stop (at 0 bad-bits)) (gives (one (bits (afterMarker (spread 8 (b ∷ p))))) (length (b ∷ p)))
+sbitstrHead [] = stop (here bad-bits)
+sbitstrHead (b ∷ p) = ifEq b 0 (stop (here bad-bits)) (gives (one (bits (afterMarker (spread 8 (b ∷ p))))) (length (b ∷ p)))
 
 -- "Size: a first byte below 80 is the size itself, 00 meaning 128. From 80 up, its low seven bits say how many bytes follow,
 -- 80 meaning 128 of them; they are the size, high byte first, leading zeros allowed."
@@ -81,8 +81,8 @@ contents s h n = take n (drop h s)
 -- wanting bytes are told, "from the object's own size where that is complete".
 unfoldable pub within : ℕ → List ℕ → (ℕ → ℕ → Head) → Size → Head
 unfolding ifLt past
-within d s f (cut k) = stop (wants 0 (past d) k)
-within d s f (size h n) = ifLt (length s - h) n (stop (wants 0 (past d) (n - (length s - h)))) (f h n)
+within d s f (cut k) = stop (wants (past d) k)
+within d s f (size h n) = ifLt (length s - h) n (stop (wants (past d) (n - (length s - h)))) (f h n)
 
 unfoldable pub sized : ℕ → List ℕ → (ℕ → ℕ → Head) → Head
 unfolding within sizeOf
@@ -128,17 +128,18 @@ leading (b ∷ s) = leadingBy (classOf b) b s (leading s)
 -- (reserved too) or a negative number gives 6 or 7 for the LBITSTR or REPEAT at once."
 -- `why` is 6 or 7; the contents start at `h`; `f` is given the length or count and the bytes up to its end.
 unfoldable pub counted : ℕ → ℕ → (ℕ → ℕ → Head) → Leading → Head
-counted why h f absent = stop (at 0 why)
-counted why h f (short p k) = stop (wants (1 + h + p) past-enclosing k)
+unfolding further
+counted why h f absent = stop (here why)
+counted why h f (short p k) = stop (further (1 + h + p) (wants past-enclosing k))
 counted why h f (found (pos n) u) = f n u
-counted why h f (found (negsuc n) u) = stop (at 0 why)
+counted why h f (found (negsuc n) u) = stop (here why)
 
 -- "LBITSTR: contents are an INT object n, then exactly the bytes needed for n bits, left-adjusted. Spare bits at the end
 -- are ignored." The contents are `c`, and the object has `used` bytes past its type-byte.
 unfoldable pub lbitstr : List ℕ → ℕ → ℕ → ℕ → Head
 unfolding ifEq bytesFor spread
 lbitstr c used n u =
-    ifEq (length (drop u c)) (bytesFor n) (gives (one (bits (take n (spread 8 (drop u c))))) used) (stop (at 0 bad-bits))
+    ifEq (length (drop u c)) (bytesFor n) (gives (one (bits (take n (spread 8 (drop u c))))) used) (stop (here bad-bits))
 
 unfoldable pub lbitstrHead : ℕ → List ℕ → Head
 unfolding sized counted lbitstr leading contents
@@ -147,7 +148,7 @@ lbitstrHead d s = sized d s (λ h n. counted bad-bits h (lbitstr (contents s h n
 -- 5: "a seventeenth container"
 unfoldable pub container : ℕ → Head → Head
 unfolding ifLt
-container d f = ifLt d depthLimit f (stop (at 0 too-deep))
+container d f = ifLt d depthLimit f (stop (here too-deep))
 
 -- "STRING: each contents byte is a character, its high bit ignored."
 unfoldable pub characters : List ℕ → Items
@@ -167,7 +168,7 @@ groupHead w d s = container d (sized d s (opens w))
 -- EDT or REPEAT."
 unfoldable pub repeatHead : ℕ → List ℕ → Head
 unfolding container sized counted leading contents
-repeatHead zero s = stop (at 0 bad-repeat)
+repeatHead zero s = stop (here bad-repeat)
 repeatHead (suc d) s =
     container (suc d)
     (sized (suc d) s (λ h n. counted bad-repeat h (λ k u. opens (repeated k) (h + u) (n - u)) (leading (contents s h n))))
@@ -192,7 +193,7 @@ headBy Empty d b s = gives (one empty) 0
 -- "PADDING is skipped wherever a type-byte is expected"
 headBy Padding d b s = gives end 0
 -- 4: "reserved or unassigned type-byte"
-headBy Reserved d b s = stop (at 0 unassigned)
+headBy Reserved d b s = stop (here unassigned)
 
 unfoldable pub headOf : ℕ → ℕ → List ℕ → Head
 unfolding headBy classOf

@@ -76,15 +76,15 @@ abbrev pub depthLimit : ℕ
 depthLimit = 16
 
 -- A fault of a message (the struct of src/fault.rt): its `number`; its `place`, "the offset of the faulty object's type-byte", counted
--- from the start of whatever is being read, and moved outward with it; and `missing`, "how many bytes are wanting".
+-- from the start of whatever is being read, so 0 at first, and moved outward with it; and `missing`, "how many bytes are wanting".
 
 -- "it is 0 with every other result"
-abbrev pub at : ℕ → ℕ → Fault
-at p n = record { number = n; place = p; missing = 0 }
+abbrev pub here : ℕ → Fault
+here n = record { number = n; place = 0; missing = 0 }
 
 -- 2 and 3, for the want of k bytes: "Anything above 65,536 is told as 65,536."
-abbrev pub wants : ℕ → ℕ → ℕ → Fault
-wants p n k = record { number = n; place = p; missing = min k byteLimit }
+abbrev pub wants : ℕ → ℕ → Fault
+wants n k = record { number = n; place = 0; missing = min k byteLimit }
 
 unfoldable pub further : ℕ → Fault → Fault
 further n f = record { number = f .number; place = n + f .place; missing = f .missing }

@@ -28,13 +28,13 @@ pub struct Fault {
     pub missing: usize,
 }
 
-// A fault for which no bytes are missing.
-pub fn at(place: usize, number: usize) -> Fault
-    ensures { λ r. ⌜ r ≡ R.at place number ⌝ }
+// A fault of what is being read, for which no bytes are missing.
+pub fn here(number: usize) -> Fault
+    ensures { λ r. ⌜ r ≡ R.here number ⌝ }
 {
     Fault {
         number,
-        place,
+        place: 0,
         missing: 0,
     }
 }
@@ -47,12 +47,12 @@ fn told(k: usize) -> usize
 }
 
 // One for which k bytes are missing.
-pub fn wants(place: usize, number: usize, k: usize) -> Fault
-    ensures { λ r. ⌜ r ≡ R.wants place number k ⌝ }
+pub fn wants(number: usize, k: usize) -> Fault
+    ensures { λ r. ⌜ r ≡ R.wants number k ⌝ }
 {
     Fault {
         number,
-        place,
+        place: 0,
         missing: told(k),
     }
 }

@@ -11,7 +11,7 @@ use lib.Seq.{length-take-le}
 use Rattle.format.specs.Choice.{pick, ifEq}
 use Rattle.format.specs.Bits.{spread, bytesFor, wordsFor}
 use Rattle.format.specs.declared.fault.Fault.{Fault}
-use Rattle.format.specs.Refusals.{at, further}
+use Rattle.format.specs.Refusals.{here, further}
 use Rattle.format.specs.Items.{Items, end, group, struc, edt, one, bits, groupKind, kinds, uniform, edtRule}
 use Rattle.format.specs.Objects as O
 use Rattle.format.specs.Messages.{Outcome, Object, closing, around, object, reads}
@@ -42,19 +42,19 @@ unfolding pick
 picked true x y = refl
 picked false x y = refl
 
-ustruc-by : (a x : Summary) (u : ℕ) → closedBy (ustrucFault a) x u ≡ ifEq (a .mix) 255 (Bad (at 0 8)) (Got x u)
+ustruc-by : (a x : Summary) (u : ℕ) → closedBy (ustrucFault a) x u ≡ ifEq (a .mix) 255 (Bad (here 8)) (Got x u)
 unfolding ifEq ustrucFault closedBy
 ustruc-by a x u = go (eqb (a .mix) 255)
   where
-    go : (t : Bool) → closedBy (pick t 8 0) x u ≡ pick t (Bad (at 0 8)) (Got x u)
+    go : (t : Bool) → closedBy (pick t 8 0) x u ≡ pick t (Bad (here 8)) (Got x u)
     go true = refl
     go false = refl
 
-edt-by : (a x : Summary) (u : ℕ) → closedBy (edtFault a) x u ≡ ifEq (a .second) 1 (ifEq (a .first) 1 (Got x u) (ifEq (a .first) 9 (Got x u) (Bad (at 0 9)))) (Bad (at 0 9))
+edt-by : (a x : Summary) (u : ℕ) → closedBy (edtFault a) x u ≡ ifEq (a .second) 1 (ifEq (a .first) 1 (Got x u) (ifEq (a .first) 9 (Got x u) (Bad (here 9)))) (Bad (here 9))
 unfolding ifEq edtFault closedBy
 edt-by a x u = go (eqb (a .second) 1) (eqb (a .first) 1) (eqb (a .first) 9)
   where
-    go : (r p q : Bool) → closedBy (pick r (pick p 0 (pick q 0 9)) 9) x u ≡ pick r (pick p (Got x u) (pick q (Got x u) (Bad (at 0 9)))) (Bad (at 0 9))
+    go : (r p q : Bool) → closedBy (pick r (pick p 0 (pick q 0 9)) 9) x u ≡ pick r (pick p (Got x u) (pick q (Got x u) (Bad (here 9)))) (Bad (here 9))
     go false p q = refl
     go true true q = refl
     go true false true = refl
@@ -64,9 +64,9 @@ pub closed-answer : (w : Wrap) (u : ℕ) (xs : Items) → answerObject (closing 
 unfolding closing wrapOf closedOf answerObject sumOf uniform groupKind lead
 closed-answer Struc u xs = ap (λ a. Got a u) (sum-struc xs)
 closed-answer Ustruc u xs =
-    picked (uniform xs) _ _ ∙ ap (λ a. pick (uniform xs) (Got a u) (Bad (at 0 8))) (sum-struc xs) ∙ sym (several (kinds xs) _ _ (kinds-codes xs)) ∙ sym (ustruc-by (sumOf xs) _ u)
+    picked (uniform xs) _ _ ∙ ap (λ a. pick (uniform xs) (Got a u) (Bad (here 8))) (sum-struc xs) ∙ sym (several (kinds xs) _ _ (kinds-codes xs)) ∙ sym (ustruc-by (sumOf xs) _ u)
 closed-answer Edt u xs =
-    picked (edtRule xs) _ _ ∙ ap (λ a. pick (edtRule xs) (Got a u) (Bad (at 0 9))) (sum-group edt xs) ∙ sym (edt-leads xs _ _) ∙ sym (edt-by (sumOf xs) _ u)
+    picked (edtRule xs) _ _ ∙ ap (λ a. pick (edtRule xs) (Got a u) (Bad (here 9))) (sum-group edt xs) ∙ sym (edt-leads xs _ _) ∙ sym (edt-by (sumOf xs) _ u)
 closed-answer (Repeat k) u xs = ap (λ a. Got a u) (sum-times k xs)
 
 -- ---- the cases of a head, as the code has them

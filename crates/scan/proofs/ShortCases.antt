@@ -12,7 +12,7 @@ use lib.ListN.{length, take, drop, getD, length-drop, drop-of-length-le}
 use lib.Seq.{drop-drop}
 use Rattle.format.specs.Choice.{pick, ifEq}
 use Rattle.format.specs.declared.fault.Fault.{Fault}
-use Rattle.format.specs.Refusals.{at, further}
+use Rattle.format.specs.Refusals.{here, further}
 use Rattle.format.specs.Items.{Items, end, group, struc}
 use Rattle.format.specs.Objects as O
 use Rattle.format.specs.Messages.{got, closing, around, object, onto, reads, says}
@@ -42,13 +42,13 @@ use Rattle.scan.proofs.ObjectCases.{closed-answer}
 -- a container, from what its contents come to
 unfoldable shortClosed : ℕ → Summary → Scanned
 unfolding ifEq faultOf shortGroup
-shortClosed b a = ifEq (faultOf b a) 0 (Accepted (shortGroup b a)) (Refused (at 0 (faultOf b a)))
+shortClosed b a = ifEq (faultOf b a) 0 (Accepted (shortGroup b a)) (Refused (here (faultOf b a)))
 
-by-fault : (f u : ℕ) (x : Summary) → asObject u (ifEq f 0 (Accepted x) (Refused (at 0 f))) ≡ closedBy f x u
+by-fault : (f u : ℕ) (x : Summary) → asObject u (ifEq f 0 (Accepted x) (Refused (here f))) ≡ closedBy f x u
 unfolding ifEq closedBy asObject
 by-fault f u x = go (eqb f 0)
   where
-    go : (t : Bool) → asObject u (pick t (Accepted x) (Refused (at 0 f))) ≡ pick t (Got x u) (Bad (at 0 f))
+    go : (t : Bool) → asObject u (pick t (Accepted x) (Refused (here f))) ≡ pick t (Got x u) (Bad (here f))
     go true = refl
     go false = refl
 
@@ -85,7 +85,7 @@ chars-fault n = go (eqb n 1)
 -- a container of n CHARs
 unfoldable shortText : ℕ → ℕ → Scanned
 unfolding ifEq textFault
-shortText b n = ifEq (textFault b) 0 (Accepted (textOf (n + 1))) (Refused (at 0 (textFault b)))
+shortText b n = ifEq (textFault b) 0 (Accepted (textOf (n + 1))) (Refused (here (textFault b)))
 
 chars-closed : (b n : ℕ) → n ≤ 127 → shortText b n ≡ shortClosed b (chars n)
 unfolding ifEq shortText textFault shortClosed faultOf ustrucFault shortGroup chars strucOf strucLead
@@ -126,9 +126,9 @@ module _ (d b : ℕ) (c : List ℕ) where
     closes xs e = closed-is b (1 + length c) xs ∙ sym (ap answerObject (as-around ∙ ap (around (shortWrap b) 1 (length c)) e))
 
     -- with a fault, and without
-    faulty : (f : ℕ) (a : Summary) → f ≢ 0 → f ≡ faultOf b a → Refused (at 0 f) ≡ shortClosed b a
+    faulty : (f : ℕ) (a : Summary) → f ≢ 0 → f ≡ faultOf b a → Refused (here f) ≡ shortClosed b a
     unfolding shortClosed
-    faulty f a z e = ap (λ k. Refused (at 0 k)) e ∙ sym (ifEq-no _ _ _ _ (λ y. z (e ∙ y)))
+    faulty f a z e = ap (λ k. Refused (here k)) e ∙ sym (ifEq-no _ _ _ _ (λ y. z (e ∙ y)))
 
     whole : (f : ℕ) (a x : Summary) → f ≡ 0 → f ≡ faultOf b a → x ≡ shortGroup b a → Accepted x ≡ shortClosed b a
     unfolding shortClosed
@@ -141,9 +141,9 @@ module _ (d b : ℕ) (c : List ℕ) where
           ap (asObject (1 + length c)) (chars-closed b (length c) h ∙ ap (shortClosed b) (sym (x .2 ∙ chars-sum (length c) g h)))
           ∙ closes (x .0) (x .1)
 
-      pub chars-refused : (x : Fault) → x ≡ at 0 f → f ≢ 0 → asObject (1 + length c) (Refused x) ≡ answerObject (shortObject d b c)
+      pub chars-refused : (x : Fault) → x ≡ here f → f ≢ 0 → asObject (1 + length c) (Refused x) ≡ answerObject (shortObject d b c)
       unfolding shortText
-      chars-refused x ex z = ap (asObject (1 + length c)) (ap Refused ex ∙ ap (λ k. Refused (at 0 k)) e ∙ sym (ifEq-no _ _ _ _ (λ y. z (e ∙ y)))) ∙ chars-are
+      chars-refused x ex z = ap (asObject (1 + length c)) (ap Refused ex ∙ ap (λ k. Refused (here k)) e ∙ sym (ifEq-no _ _ _ _ (λ y. z (e ∙ y)))) ∙ chars-are
 
       pub chars-accepted : f ≡ 0 → (a : Summary) → a ≡ textOf (length c + 1) → asObject (1 + length c) (Accepted a) ≡ answerObject (shortObject d b c)
       unfolding shortText
@@ -162,7 +162,7 @@ module _ (d b : ℕ) (c : List ℕ) where
           let x = accepted-run a (reads (d + 1) c) y in
           ap (asObject (1 + length c)) (k ∙ ap (shortClosed b) (x .2)) ∙ closes (x .0) (x .1)
 
-      pub short-faulty : (x : Fault) → x ≡ at 0 f → f ≢ 0 → asObject (1 + length c) (Refused x) ≡ answerObject (shortObject d b c)
+      pub short-faulty : (x : Fault) → x ≡ here f → f ≢ 0 → asObject (1 + length c) (Refused x) ≡ answerObject (shortObject d b c)
       short-faulty x ex z = closed-as (Refused x) (ap Refused ex ∙ faulty f a z e)
 
       pub short-whole : f ≡ 0 → (x : Summary) → x ≡ shortGroup b a → asObject (1 + length c) (Accepted x) ≡ answerObject (shortObject d b c)

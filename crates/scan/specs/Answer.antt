@@ -1,7 +1,7 @@
 -- What the scan answers, from what the bytes say.
 use Prim.Native.Nat.{ℕ}
 use Rattle.format.specs.Choice.{ifEq}
-use Rattle.format.specs.Refusals.{several-kinds, bad-edt, at}
+use Rattle.format.specs.Refusals.{several-kinds, bad-edt, here}
 use Rattle.format.specs.Items.{INT}
 use Rattle.format.specs.Messages as M
 use Rattle.wire.specs.declared.head.Wrap.{Wrap}
@@ -35,7 +35,7 @@ edtFault a = ifEq (a .second) INT (ifEq (a .first) INT 0 (ifEq (a .first) STRING
 -- a container, from its refusal or 0 and the item that it is; `u` are its bytes past the type-byte
 unfoldable pub closedBy : ℕ → Summary → ℕ → Object
 unfolding ifEq
-closedBy f x u = ifEq f 0 (Got x u) (Bad (at 0 f))
+closedBy f x u = ifEq f 0 (Got x u) (Bad (here f))
 
 -- a container, from what its contents come to
 unfoldable pub closedOf : Wrap → Summary → ℕ → Object

@@ -12,7 +12,7 @@ use super::summary::struc;
 use format::fault::BAD_EDT;
 use format::fault::Fault;
 use format::fault::SEVERAL_KINDS;
-use format::fault::at;
+use format::fault::here;
 use wire::head::Wrap;
 use wire::short::is_edt;
 use wire::short::is_ustruc;
@@ -81,7 +81,7 @@ fn closed_by(fault: usize, one: Summary, past: usize) -> Object
     ensures { λ r. ⌜ r ≡ closedBy fault one past ⌝ }
 {
     if fault != 0 {
-        return Object::Bad(at(0, fault));
+        return Object::Bad(here(fault));
     }
     Object::Got(one, past)
 }

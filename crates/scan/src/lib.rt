@@ -17,8 +17,8 @@ use closing::fault_of;
 use closing::group_of;
 use closing::text_fault;
 use format::fault::Fault;
-use format::fault::at;
 use format::fault::further;
+use format::fault::here;
 use format::tree::is_non_atomic;
 use stretch::all_chars;
 use stretch::leap_from;
@@ -100,7 +100,7 @@ fn scan_short(depth: usize, b: u8, c: &[u8]) -> Scanned
     if all_chars(c) {
         let fault = text_fault(b);
         if fault != 0 {
-            return Scanned::Refused(at(0, fault));
+            return Scanned::Refused(here(fault));
         }
         return Scanned::Accepted(text_of(n + 1));
     }
@@ -110,7 +110,7 @@ fn scan_short(depth: usize, b: u8, c: &[u8]) -> Scanned
         Scanned::Accepted(sum) => {
             let fault = fault_of(b, sum);
             if fault != 0 {
-                return Scanned::Refused(at(0, fault));
+                return Scanned::Refused(here(fault));
             }
             Scanned::Accepted(group_of(b, sum))
         }

@@ -14,7 +14,7 @@ use Rattle.format.specs.declared.Class.the-variants as C
 use Rattle.format.specs.Numbers.{Bytes, val, twos}
 use Rattle.format.specs.Bits.{isOne, spread, bytesFor}
 use Rattle.format.specs.declared.fault.Fault.{Fault}
-use Rattle.format.specs.Refusals.{at, wants}
+use Rattle.format.specs.Refusals.{here, wants, further}
 use Rattle.format.specs.Items.{Leaf, int, bits, char, bool, empty, xtra, one, leafKind}
 use Rattle.format.specs.Classes.{classOf}
 use Rattle.format.specs.Tables.{leafA, leafB, leafWords}
@@ -80,7 +80,7 @@ padding-gap d b s = refl
 pub stopped : (s : List ℕ) (h : O.Head) (x y : Fault) → x ≡ y → HeadIs s (Stop y) h → HeadIs s (Stop x) h
 stopped s h x y e p = p ∙ ap O.stop (sym e)
 
-pub reserved-stop : (d b : ℕ) (s : List ℕ) → HeadIs s (Stop (at 0 4)) (O.headBy C.Reserved d b s)
+pub reserved-stop : (d b : ℕ) (s : List ℕ) → HeadIs s (Stop (here 4)) (O.headBy C.Reserved d b s)
 unfolding O.headBy
 reserved-stop d b s = refl
 
@@ -94,7 +94,7 @@ unfolding O.past
 past-inner zero n = absurd (n refl)
 past-inner (suc d) n = refl
 
-fixed-stop : (d k : ℕ) (s : List ℕ) (f : List ℕ → O.Head) (x : Fault) → length s < k → x ≡ wants 0 (O.past d) (k - length s) → O.fixed d k s f ≡ O.stop x
+fixed-stop : (d k : ℕ) (s : List ℕ) (f : List ℕ → O.Head) (x : Fault) → length s < k → x ≡ wants (O.past d) (k - length s) → O.fixed d k s f ≡ O.stop x
 unfolding O.fixed
 fixed-stop d k s f x h e = ifLt-yes (length s) k _ _ h ∙ ap O.stop (sym e)
 
@@ -102,7 +102,7 @@ fixed-go : (d k : ℕ) (s : List ℕ) (f : List ℕ → O.Head) → k ≤ length
 unfolding O.fixed
 fixed-go d k s f h = ifLt-no (length s) k _ _ h
 
-pub linteger-stop : (d b k : ℕ) (s : List ℕ) (x : Fault) → k ≡ O.following b → length s < k → x ≡ wants 0 (O.past d) (k - length s)
+pub linteger-stop : (d b k : ℕ) (s : List ℕ) (x : Fault) → k ≡ O.following b → length s < k → x ≡ wants (O.past d) (k - length s)
     → HeadIs s (Stop x) (O.headBy C.Linteger d b s)
 unfolding O.headBy
 linteger-stop d b k s x ek h e = fixed-stop d (O.following b) s O.lintegerHead x (rw ek at h) (rw ek at e)
@@ -123,7 +123,7 @@ linteger-is k v s ev = int-row (O.integer (take k s)) v (sym ev)
 pub linteger-row : (d b k v : ℕ) (s : List ℕ) → k ≡ O.following b → k ≤ length s → v ≡ twos 8 (O.integer (take k s)) → HeadIs s (Row 1 v k) (O.headBy C.Linteger d b s)
 linteger-row d b k v s ek h ev = (linteger-leaf k s, linteger-head d b k s ek h, linteger-is k v s ev)
 
-pub sbitstr-stop : (d b k : ℕ) (s : List ℕ) (x : Fault) → k ≡ O.following b → length s < k → x ≡ wants 0 (O.past d) (k - length s)
+pub sbitstr-stop : (d b k : ℕ) (s : List ℕ) (x : Fault) → k ≡ O.following b → length s < k → x ≡ wants (O.past d) (k - length s)
     → HeadIs s (Stop x) (O.headBy C.Sbitstr d b s)
 unfolding O.headBy
 sbitstr-stop d b k s x ek h e = fixed-stop d (O.following b) s O.sbitstrHead x (rw ek at h) (rw ek at e)
@@ -132,7 +132,7 @@ sbitstr-go : (d b k : ℕ) (s : List ℕ) → k ≡ O.following b → k ≤ leng
 unfolding O.headBy
 sbitstr-go d b k s ek h = ap (λ j. O.fixed d j s O.sbitstrHead) (sym ek) ∙ fixed-go d k s O.sbitstrHead h
 
-sbitstr-zero : (p : List ℕ) → getD p 0 0 ≡ 0 → O.sbitstrHead p ≡ O.stop (at 0 6)
+sbitstr-zero : (p : List ℕ) → getD p 0 0 ≡ 0 → O.sbitstrHead p ≡ O.stop (here 6)
 unfolding O.sbitstrHead
 sbitstr-zero [] e = refl
 sbitstr-zero (a ∷ p) e = ifEq-yes a 0 _ _ e
@@ -142,7 +142,7 @@ unfolding O.sbitstrHead
 sbitstr-bits [] h n = absurd (omega arith)
 sbitstr-bits (a ∷ p) h n = ifEq-no a 0 _ _ n
 
-pub sbitstr-bad : (d b k : ℕ) (s : List ℕ) → k ≡ O.following b → k ≤ length s → getD s 0 0 ≡ 0 → HeadIs s (Stop (at 0 6)) (O.headBy C.Sbitstr d b s)
+pub sbitstr-bad : (d b k : ℕ) (s : List ℕ) → k ≡ O.following b → k ≤ length s → getD s 0 0 ≡ 0 → HeadIs s (Stop (here 6)) (O.headBy C.Sbitstr d b s)
 sbitstr-bad d b k s ek h e =
     sbitstr-go d b k s ek h ∙ sbitstr-zero (take k s) (getD-take k s 0 0 (omega (arith, following-range b .0)) ∙ e)
 
@@ -158,15 +158,15 @@ sbitstr-short d b k n v w s hb ek h z en ev w0 w1 =
     )
 
 -- ---- a length or a count
-pub count-absent : (why h : ℕ) (s : List ℕ) (x : Fault) → x ≡ at 0 why → O.leading s ≡ O.absent → CountedIs why h s (Wrong x)
+pub count-absent : (why h : ℕ) (s : List ℕ) (x : Fault) → x ≡ here why → O.leading s ≡ O.absent → CountedIs why h s (Wrong x)
 unfolding O.counted
 count-absent why h s x ex e = λ f. rw e (ap O.stop (sym ex))
 
-pub count-short : (why h p k : ℕ) (s : List ℕ) (x : Fault) → x ≡ wants (1 + h + p) 3 k → O.leading s ≡ O.short p k → CountedIs why h s (Wrong x)
+pub count-short : (why h p k : ℕ) (s : List ℕ) (x : Fault) → x ≡ further (1 + h + p) (wants 3 k) → O.leading s ≡ O.short p k → CountedIs why h s (Wrong x)
 unfolding O.counted
 count-short why h p k s x ex e = λ f. rw e (ap O.stop (sym ex))
 
-pub count-negative : (why h m u : ℕ) (s : List ℕ) (x : Fault) → x ≡ at 0 why → O.leading s ≡ O.found (negsuc m) u → CountedIs why h s (Wrong x)
+pub count-negative : (why h m u : ℕ) (s : List ℕ) (x : Fault) → x ≡ here why → O.leading s ≡ O.found (negsuc m) u → CountedIs why h s (Wrong x)
 unfolding O.counted
 count-negative why h m u s x ex e = λ f. rw e (ap O.stop (sym ex))
 
@@ -175,7 +175,7 @@ unfolding O.counted
 count-right why h n u s e g l = (λ f. rw e refl, l, g)
 
 -- ---- LBITSTR
-pub lbitstr-past : (d k : ℕ) (s : List ℕ) (x : Fault) → x ≡ wants 0 (O.past d) k → ExtentIs s (Past k) → HeadIs s (Stop x) (O.headBy C.Lbitstr d 0xc1 s)
+pub lbitstr-past : (d k : ℕ) (s : List ℕ) (x : Fault) → x ≡ wants (O.past d) k → ExtentIs s (Past k) → HeadIs s (Stop x) (O.headBy C.Lbitstr d 0xc1 s)
 unfolding O.headBy O.lbitstrHead
 lbitstr-past d k s x ex e = e d _ ∙ ap O.stop (sym ex)
 
@@ -200,7 +200,7 @@ contents-long : (s : List ℕ) (h n : ℕ) → h + n ≤ length s → length (O.
 unfolding O.contents
 contents-long s h n l = length-take-le n (drop h s) (omega (arith, length-drop h s))
 
-lbitstr-odd : (c : List ℕ) (used k u : ℕ) → length (drop u c) ≢ bytesFor k → O.lbitstr c used k u ≡ O.stop (at 0 6)
+lbitstr-odd : (c : List ℕ) (used k u : ℕ) → length (drop u c) ≢ bytesFor k → O.lbitstr c used k u ≡ O.stop (here 6)
 unfolding O.lbitstr
 lbitstr-odd c used k u q = ifEq-no (length (drop u c)) (bytesFor k) _ _ q
 
@@ -226,11 +226,11 @@ lbitstr-right d h n k u s x c0 =
     (λ q. rw (ifEq-no (n - u) (bytesFor k)) (e ∙ lbitstr-odd (O.contents s h n) (h + n) k u (λ z. q (sym el ∙ z))))
 
 -- ---- containers
-pub contents-deep : (d : ℕ) (s : List ℕ) (x : Fault) → x ≡ at 0 5 → 16 ≤ d → ContainedIs d s (Outside x)
+pub contents-deep : (d : ℕ) (s : List ℕ) (x : Fault) → x ≡ here 5 → 16 ≤ d → ContainedIs d s (Outside x)
 unfolding O.container
 contents-deep d s x e h = λ f. ifLt-no d 16 _ _ h ∙ ap O.stop (sym e)
 
-pub contents-past : (d k : ℕ) (s : List ℕ) (x : Fault) → x ≡ wants 0 (O.past d) k → d < 16 → ExtentIs s (Past k) → ContainedIs d s (Outside x)
+pub contents-past : (d k : ℕ) (s : List ℕ) (x : Fault) → x ≡ wants (O.past d) k → d < 16 → ExtentIs s (Past k) → ContainedIs d s (Outside x)
 unfolding O.container
 contents-past d k s x ex h e = λ f. ifLt-yes d 16 _ _ h ∙ e d f ∙ ap O.stop (sym ex)
 
@@ -255,7 +255,7 @@ unfolding O.groupHead
 group-open w d h n s x = (x .0 _, x .1)
 
 -- ---- REPEAT
-pub repeat-outer : (s : List ℕ) → HeadIs s (Stop (at 0 7)) (O.headBy C.Repeat 0 0xc4 s)
+pub repeat-outer : (s : List ℕ) → HeadIs s (Stop (here 7)) (O.headBy C.Repeat 0 0xc4 s)
 unfolding O.headBy O.repeatHead
 repeat-outer s = refl
 

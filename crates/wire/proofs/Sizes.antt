@@ -21,8 +21,8 @@ unfolding sized within
 extent-cut s k e = λ d f. rw e refl
 
 -- of a size that is capped at twice what any message holds, as many bytes are missing as of the size itself
-missing-capped : (d n m l : ℕ) → m ≡ min n 131072 → l ≤ 65536 → stop (wants 0 (past d) (n - l)) ≡ stop (wants 0 (past d) (m - l))
-missing-capped d n m l e h = ap stop (wants-alike 0 (past d) (n - l) (m - l) (omega arith))
+missing-capped : (d n m l : ℕ) → m ≡ min n 131072 → l ≤ 65536 → stop (wants (past d) (n - l)) ≡ stop (wants (past d) (m - l))
+missing-capped d n m l e h = ap stop (wants-alike (past d) (n - l) (m - l) (omega arith))
 
 -- and it is as good as the size itself
 pub extent-is : (s : List ℕ) (h n m : ℕ) → sizeOf s ≡ size h n → m ≡ min n 131072 → h ≤ length s → length s ≤ 65536 → ExtentIs s (extentAt (length s) h m)

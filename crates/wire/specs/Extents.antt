@@ -20,5 +20,5 @@ longCount b = ifEq b 0x80 128 (b - 0x80)
 
 -- whatever the object makes of its contents, and however deep it stands
 abbrev pub ExtentIs : List ℕ → Extent → Type 0
-ExtentIs s (Past k) = (d : ℕ) (f : ℕ → ℕ → Head) → sized d s f ≡ stop (wants 0 (past d) k)
+ExtentIs s (Past k) = (d : ℕ) (f : ℕ → ℕ → Head) → sized d s f ≡ stop (wants (past d) k)
 ExtentIs s (Within h n) = ((d : ℕ) (f : ℕ → ℕ → Head) → sized d s f ≡ f h n) × (h + n ≤ length s)

@@ -8,7 +8,7 @@ use lib.Dec.{eqb}
 use lib.ListN.{length, take, drop, getD}
 use Rattle.format.specs.Choice.{ifLt, ifEq, either}
 use Rattle.format.specs.Bits.{spread, adjusted, bytesFor}
-use Rattle.format.specs.Refusals.{at}
+use Rattle.format.specs.Refusals.{here}
 use Rattle.format.specs.Items.{Leaf, bits, struc, end, group, one, leafKind}
 use Rattle.format.specs.Tables.{leafA, leafB, leafWords}
 use Rattle.format.specs.Objects as O
@@ -64,7 +64,7 @@ wrapOf (Repeat k) = O.repeated k
 
 unfoldable pub longBits : ℕ → ℕ → ℕ → ℕ → Head
 unfolding ifEq bytesFor
-longBits h size n u = ifEq (size - u) (bytesFor n) (Long (h + u) n (h + size)) (Stop (at 0 6))
+longBits h size n u = ifEq (size - u) (bytesFor n) (Long (h + u) n (h + size)) (Stop (here 6))
 
 -- an item whose row is k, 0 and v, with no data words
 pub record IsRow (l : Leaf) (k v : ℕ) : Type 0 where

@@ -22,7 +22,8 @@ use format::fault::PAST_ENCLOSING;
 use format::fault::PAST_INPUT;
 use format::fault::TOO_DEEP;
 use format::fault::UNASSIGNED;
-use format::fault::at;
+use format::fault::further;
+use format::fault::here;
 use format::fault::wants;
 use format::signed::word_of;
 use format::tree::class_of;
@@ -68,12 +69,12 @@ enum Counted {
 
 // The refusal of an object for which k bytes are missing to the end that it passes.
 fn past_end(depth: usize, k: usize) -> Fault
-    ensures { λ r. ⌜ r ≡ R.wants 0 (past depth) k ⌝ }
+    ensures { λ r. ⌜ r ≡ R.wants (past depth) k ⌝ }
 {
     if depth == 0 {
-        return wants(0, PAST_INPUT, k);
+        return wants(PAST_INPUT, k);
     }
-    wants(0, PAST_ENCLOSING, k)
+    wants(PAST_ENCLOSING, k)
 }
 
 fn linteger(depth: usize, b: u8, s: &[u8]) -> Head
@@ -107,7 +108,7 @@ fn sbitstr(depth: usize, b: u8, s: &[u8]) -> Head
     }
     let first = s[0];
     if first == 0 {
-        return Head::Stop(at(0, BAD_BITS));
+        return Head::Stop(here(BAD_BITS));
     }
     let zeros = ones_of(!first) as usize;
     let n = 8 * k - 1 - zeros;
@@ -121,11 +122,11 @@ fn count_of(why: usize, h: usize, c: &[u8]) -> Counted
 {
     let l = leading_of(c);
     match l {
-        Leading::Absent => Counted::Wrong(at(0, why)),
-        Leading::Short(p, k) => Counted::Wrong(wants(1 + h + p, PAST_ENCLOSING, k)),
+        Leading::Absent => Counted::Wrong(here(why)),
+        Leading::Short(p, k) => Counted::Wrong(further(1 + h + p, wants(PAST_ENCLOSING, k))),
         Leading::Found(z, u) => {
             if z < 0 {
-                return Counted::Wrong(at(0, why));
+                return Counted::Wrong(here(why));
             }
             Counted::Right(z as usize, u)
         }
@@ -138,7 +139,7 @@ fn long_bits(h: usize, size: usize, n: usize, u: usize) -> Head
     ensures { λ r. ⌜ r ≡ longBits h size n u ⌝ }
 {
     if size - u != (n + 7) / 8 {
-        return Head::Stop(at(0, BAD_BITS));
+        return Head::Stop(here(BAD_BITS));
     }
     Head::Long(h + u, n, h + size)
 }
@@ -166,7 +167,7 @@ fn contents_of(depth: usize, s: &[u8]) -> Contained
     ensures { λ r. ⌜ ContainedIs depth (now (s .entry)) r ⌝ }
 {
     if depth >= 16 {
-        return Contained::Outside(at(0, TOO_DEEP));
+        return Contained::Outside(here(TOO_DEEP));
     }
     let e = extent_of(s);
     match e {
@@ -202,7 +203,7 @@ fn repeat(depth: usize, s: &[u8]) -> Head
     ensures { λ r. ⌜ HeadIs (now (s .entry)) r (headBy Repeat depth 0xc4 (now (s .entry))) ⌝ }
 {
     if depth == 0 {
-        return Head::Stop(at(0, BAD_REPEAT));
+        return Head::Stop(here(BAD_REPEAT));
     }
     let c = contents_of(depth, s);
     match c {
@@ -238,6 +239,6 @@ pub fn head_of(depth: usize, b: u8, s: &[u8]) -> Head
         Class::Bool => Head::Row(4, (b % 2) as u64, 0),
         Class::Empty => Head::Row(5, 0, 0),
         Class::Padding => Head::Gap,
-        Class::Reserved => Head::Stop(at(0, UNASSIGNED)),
+        Class::Reserved => Head::Stop(here(UNASSIGNED)),
     }
 }

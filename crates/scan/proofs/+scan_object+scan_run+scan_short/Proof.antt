@@ -39,7 +39,7 @@ use Rattle.scan.proofs.summary.one_of.Reads as one-of-reads
 use Rattle.scan.proofs.summary.plus.Reads as plus-reads
 use Rattle.scan.proofs.summary.plus_many.Reads as plus-many-reads
 use Rattle.scan.proofs.summary.text_of.Reads as text-of-reads
-use Rattle.format.proofs.fault.at.Reads as at-reads
+use Rattle.format.proofs.fault.here.Reads as here-reads
 use Rattle.format.proofs.fault.further.Reads as further-reads
 use Rattle.format.proofs.tree.is_non_atomic.Reads as is-non-atomic-reads
 use Rattle.wire.proofs.head.head_of.Reads as head-of-reads
@@ -135,8 +135,8 @@ scan-short-claims t = (
   all-chars-reads.Learnt,
   text-fault-reads.Asked,
   text-fault-reads.Learnt,
-  at-reads.Asked,
-  at-reads.Learnt,
+  here-reads.Asked,
+  here-reads.Learnt,
   scan-run-below t,
   scan-run.Post,
   further-reads.Asked,
@@ -473,13 +473,13 @@ scan-short-all-chars-requires t c κs = search needs
 scan-short-text-fault-requires : (t : ℕ) → scan-short-lts.Need-text-fault-requires (scan-short-claims t) (scan-short-at t) scan-short.Post
 scan-short-text-fault-requires t c κs = search needs
 
-scan-short-at-requires : (t : ℕ) → scan-short-lts.Need-at-requires (scan-short-claims t) (scan-short-at t) scan-short.Post
-scan-short-at-requires t c κs = search needs
+scan-short-here-requires : (t : ℕ) → scan-short-lts.Need-here-requires (scan-short-claims t) (scan-short-at t) scan-short.Post
+scan-short-here-requires t c κs = search needs
 
 scan-short-returns-2 : (t : ℕ) → scan-short-lts.Need-returns-2 (scan-short-claims t) (scan-short-at t) scan-short.Post
 scan-short-returns-2 t c =
     let p = c .before .before .before .before .before .before .before .before .pre .1 in
-    chars-refused _ _ _ (eqb-false _ _ (sym (c .before .before .before .before .before .before .is-string .ensures) ∙ c .before .before .before .before .before .if1 .left)) (p .0) (p .1) (c .before .before .before .before .all-chars .ensures (c .before .before .before .if2 .taken)) _ (c .before .before .text-fault .ensures) _ (c .at .ensures) (c .before .if3 .taken)
+    chars-refused _ _ _ (eqb-false _ _ (sym (c .before .before .before .before .before .before .is-string .ensures) ∙ c .before .before .before .before .before .if1 .left)) (p .0) (p .1) (c .before .before .before .before .all-chars .ensures (c .before .before .before .if2 .taken)) _ (c .before .before .text-fault .ensures) _ (c .here .ensures) (c .before .if3 .taken)
 
 scan-short-add-text-of-2 : (t : ℕ) → scan-short-lts.Need-add-text-of-2 (scan-short-claims t) (scan-short-at t) scan-short.Post
 scan-short-add-text-of-2 t c = search needs
@@ -515,12 +515,12 @@ scan-short-enum-known-r-2 t c = search needs
 scan-short-fault-of-requires : (t : ℕ) → scan-short-lts.Need-fault-of-requires (scan-short-claims t) (scan-short-at t) scan-short.Post
 scan-short-fault-of-requires t c κs = search needs
 
-scan-short-at-requires-2 : (t : ℕ) → scan-short-lts.Need-at-requires-2 (scan-short-claims t) (scan-short-at t) scan-short.Post
-scan-short-at-requires-2 t c κs = search needs
+scan-short-here-requires-2 : (t : ℕ) → scan-short-lts.Need-here-requires-2 (scan-short-claims t) (scan-short-at t) scan-short.Post
+scan-short-here-requires-2 t c κs = search needs
 
 scan-short-returns-4 : (t : ℕ) → scan-short-lts.Need-returns-4 (scan-short-claims t) (scan-short-at t) scan-short.Post
 scan-short-returns-4 t c =
-    short-faulty _ _ _ (eqb-false _ _ (sym (c .before .before .before .before .before .before .before .before .before .before .is-string .ensures) ∙ c .before .before .before .before .before .before .before .before .before .if1 .left)) _ (sym (c .before .before .before .before .r2 .given .1) ∙ c .before .before .before .before .before .before .scan-run .ensures) _ (c .before .before .fault-of .ensures) _ (c .at2 .ensures) (c .before .if4 .taken)
+    short-faulty _ _ _ (eqb-false _ _ (sym (c .before .before .before .before .before .before .before .before .before .before .is-string .ensures) ∙ c .before .before .before .before .before .before .before .before .before .if1 .left)) _ (sym (c .before .before .before .before .r2 .given .1) ∙ c .before .before .before .before .before .before .scan-run .ensures) _ (c .before .before .fault-of .ensures) _ (c .here2 .ensures) (c .before .if4 .taken)
 
 scan-short-group-of-requires : (t : ℕ) → scan-short-lts.Need-group-of-requires (scan-short-claims t) (scan-short-at t) scan-short.Post
 scan-short-group-of-requires t c κs = search needs
@@ -629,7 +629,7 @@ pub +scan-object+scan-run+scan-short-spec : {M : Type 1} → statement M
     (scan-short-returns t)
     (scan-short-all-chars-requires t)
     (scan-short-text-fault-requires t)
-    (scan-short-at-requires t)
+    (scan-short-here-requires t)
     (scan-short-returns-2 t)
     (scan-short-add-text-of-2 t)
     (scan-short-text-of-requires-2 t)
@@ -640,7 +640,7 @@ pub +scan-object+scan-run+scan-short-spec : {M : Type 1} → statement M
     (scan-short-further-requires t)
     (scan-short-enum-known-r-2 t)
     (scan-short-fault-of-requires t)
-    (scan-short-at-requires-2 t)
+    (scan-short-here-requires-2 t)
     (scan-short-returns-4 t)
     (scan-short-group-of-requires t)
     (scan-short-returns-5 t)

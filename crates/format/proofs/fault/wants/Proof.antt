@@ -11,7 +11,7 @@ told-requires c κs = search needs
 
 returns : tie.Need-returns
 returns c =
-    let lacking : ℕ → Fault = λ k. record { number = c .before .args .number; place = c .before .args .place; missing = k } in
+    let lacking : ℕ → Fault = λ k. record { number = c .before .args .number; place = 0; missing = k } in
     ap lacking (c .told .ensures)
 
 pub wants-spec : {M : Type 1} → statement M

@@ -7,16 +7,16 @@ use borrow.Author.Needs.{needs}
 use Rattle.scan.proofs.closing.closed_by.Statement.{statement}
 use Rattle.scan.proofs.closing.closed_by.Tie as tie
 
-at-requires : tie.Need-at-requires
-at-requires c κs = search needs
+here-requires : tie.Need-here-requires
+here-requires c κs = search needs
 
 returns : tie.Need-returns
 unfolding closedBy
-returns c = ap Bad (c .at .ensures) ∙ sym (ifEq-no _ _ _ _ (c .before .if1 .taken))
+returns c = ap Bad (c .here .ensures) ∙ sym (ifEq-no _ _ _ _ (c .before .if1 .taken))
 
 returns-2 : tie.Need-returns-2
 unfolding closedBy
 returns-2 c = sym (ifEq-yes _ _ _ _ (c .if1 .left))
 
 pub closed-by-spec : {M : Type 1} → statement M
-closed-by-spec = tie.close (tie.spec at-requires returns returns-2)
+closed-by-spec = tie.close (tie.spec here-requires returns returns-2)

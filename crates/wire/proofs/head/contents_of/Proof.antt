@@ -7,11 +7,11 @@ use borrow.Author.Needs.{needs}
 use Rattle.wire.proofs.head.contents_of.Statement.{statement}
 use Rattle.wire.proofs.head.contents_of.Tie as tie
 
-at-requires : tie.Need-at-requires
-at-requires c κs = search needs
+here-requires : tie.Need-here-requires
+here-requires c κs = search needs
 
 returns : tie.Need-returns
-returns c = contents-deep (c .before .before .before .args .depth) (c .before .before .before .args .s .now) (c .at .result) (c .at .ensures) (omega arith)
+returns c = contents-deep (c .before .before .before .args .depth) (c .before .before .before .args .s .now) (c .here .result) (c .here .ensures) (omega arith)
 
 extent-of-requires : tie.Need-extent-of-requires
 extent-of-requires c κs = search needs
@@ -41,7 +41,7 @@ pub contents-of-spec : {M : Type 1} → statement M
 contents-of-spec =
     tie.close
     (tie.spec
-    at-requires
+    here-requires
     returns
     extent-of-requires
     enum-known-e

@@ -1,9 +1,12 @@
 -- `head::count_of` meets its contract. Assumes nothing.
 use native.Mathlib.Omega.{arith}
-use mathlib.Core.Path.{ap, _∙_, subst}
+use Prim.Native.Nat.{_+_}
+use mathlib.Core.Path.{_≡_, ap, _∙_, subst}
 use lib.Signed.{mag}
 use mir.Syntax.{w64}
 use mir.Val.{SFits}
+use Rattle.format.specs.declared.fault.Fault.{Fault}
+use Rattle.format.specs.Refusals.{further}
 use Rattle.format.specs.Objects.{found}
 use Rattle.format.proofs.SignedLaws.{found-negative, found-natural, kept, cast-mag}
 use Rattle.wire.specs.Heads.{LeadingIs}
@@ -18,31 +21,38 @@ leading-of-requires c κs = search needs
 enum-told : tie.Need-enum-told
 enum-told c = search needs
 
-at-requires : tie.Need-at-requires
-at-requires c κs = search needs
+here-requires : tie.Need-here-requires
+here-requires c κs = search needs
 
 enum-known-l : tie.Need-enum-known-l
 enum-known-l c = search needs
 
-add-wants : tie.Need-add-wants
-add-wants c = search needs
+add-further : tie.Need-add-further
+add-further c = search needs
 
-add-wants-2 : tie.Need-add-wants-2
-add-wants-2 c =
+add-further-2 : tie.Need-add-further-2
+add-further-2 c =
     let r = subst (LeadingIs (c .before .before .before .before .before .args .c .now)) (c .before .l .given .1) (c .before .before .before .leading-of .ensures) in
     omega (arith, r .1)
 
 wants-requires : tie.Need-wants-requires
 wants-requires c κs = search needs
 
+further-requires : tie.Need-further-requires
+further-requires c κs =
+    let a = c .before .before .before .before .before .before .args in
+    let r = subst (LeadingIs (a .c .now)) (c .before .before .l .given .1) (c .before .before .before .before .leading-of .ensures) in
+    let z : c .wants .result .place ≡ 0 = ap (λ (f : Fault). f .place) (c .wants .ensures) in
+    omega (arith, r .1)
+
 enum-known-l-2 : tie.Need-enum-known-l-2
 enum-known-l-2 c = search needs
 
-at-requires-2 : tie.Need-at-requires-2
-at-requires-2 c κs = search needs
+here-requires-2 : tie.Need-here-requires-2
+here-requires-2 c κs = search needs
 
-cast-t16 : tie.Need-cast-t16
-cast-t16 c =
+cast-t17 : tie.Need-cast-t17
+cast-t17 c =
     let l = c .before .before .l2 .given in
     let f : SFits w64 (l .0 .0) = record { sfits = c .before .known-told2 .given .0 .1 } in
     cast-mag _ _ (kept (l .0 .0) f (c .if1 .left)) (f .sfits)
@@ -53,21 +63,21 @@ returns c =
     let l = c .before .before .before .l2 .given in
     let r = subst (LeadingIs (a .c .now)) (l .1) (c .before .before .before .before .before .leading-of .ensures) in
     let f : SFits w64 (l .0 .0) = record { sfits = c .before .before .known-told2 .given .0 .1 } in
-    count-negative (a .why) (a .h) (mag (l .0 .0)) (l .0 .1 .0) (a .c .now) (c .at2 .result) (c .at2 .ensures)
+    count-negative (a .why) (a .h) (mag (l .0 .0)) (l .0 .1 .0) (a .c .now) (c .here2 .result) (c .here2 .ensures)
     (r .0 ∙ ap (λ z. found z (l .0 .1 .0)) (found-negative (l .0 .0) f (c .before .if1 .taken)))
 
 returns-2 : tie.Need-returns-2
 returns-2 c =
     let a = c .before .before .before .before .before .args in
     let r = subst (LeadingIs (a .c .now)) (c .before .enum-told .given .1) (c .before .before .before .leading-of .ensures) in
-    count-absent (a .why) (a .h) (a .c .now) (c .at .result) (c .at .ensures) r
+    count-absent (a .why) (a .h) (a .c .now) (c .here .result) (c .here .ensures) r
 
 returns-3 : tie.Need-returns-3
 returns-3 c =
-    let a = c .before .before .before .before .before .before .args in
-    let l = c .before .before .l .given in
-    let r = subst (LeadingIs (a .c .now)) (l .1) (c .before .before .before .before .leading-of .ensures) in
-    count-short (a .why) (a .h) (l .0 .0) (l .0 .1 .0) (a .c .now) (c .wants .result) (c .wants .ensures) (r .0)
+    let a = c .before .before .before .before .before .before .before .args in
+    let l = c .before .before .before .l .given in
+    let r = subst (LeadingIs (a .c .now)) (l .1) (c .before .before .before .before .before .leading-of .ensures) in
+    count-short (a .why) (a .h) (l .0 .0) (l .0 .1 .0) (a .c .now) (c .further .result) (c .further .ensures ∙ ap (further (1 + a .h + l .0 .0)) (c .before .wants .ensures)) (r .0)
 
 returns-4 : tie.Need-returns-4
 returns-4 c =
@@ -84,15 +94,16 @@ count-of-spec =
     (tie.spec
     leading-of-requires
     enum-told
-    at-requires
+    here-requires
     enum-known-l
-    add-wants
-    add-wants-2
+    add-further
+    add-further-2
     wants-requires
+    further-requires
     enum-known-l-2
-    at-requires-2
+    here-requires-2
     returns
-    cast-t16
+    cast-t17
     returns-2
     returns-3
     returns-4)

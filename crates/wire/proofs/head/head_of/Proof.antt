@@ -92,8 +92,8 @@ enum-told-14 c = search needs
 enum-told-15 : tie.Need-enum-told-15
 enum-told-15 c = search needs
 
-at-requires : tie.Need-at-requires
-at-requires c κs = search needs
+here-requires : tie.Need-here-requires
+here-requires c κs = search needs
 
 returns : tie.Need-returns
 returns c =
@@ -174,8 +174,8 @@ returns-14 c =
 returns-15 : tie.Need-returns-15
 returns-15 c =
     let a = c .before .before .before .before .before .args in
-    by-class (a .depth) (a .b) (a .s .now) (Stop (c .at .result)) C.Reserved (sym (c .before .enum-told15 .given .1) ∙ c .before .before .before .class-of .ensures)
-    (stopped (a .s .now) _ (c .at .result) _ (c .at .ensures) (reserved-stop (a .depth) (a .b) (a .s .now)))
+    by-class (a .depth) (a .b) (a .s .now) (Stop (c .here .result)) C.Reserved (sym (c .before .enum-told15 .given .1) ∙ c .before .before .before .class-of .ensures)
+    (stopped (a .s .now) _ (c .here .result) _ (c .here .ensures) (reserved-stop (a .depth) (a .b) (a .s .now)))
 
 pub head-of-spec : {M : Type 1} → statement M
 head-of-spec =
@@ -208,7 +208,7 @@ head-of-spec =
     enum-told-13
     enum-told-14
     enum-told-15
-    at-requires
+    here-requires
     returns
     returns-2
     returns-3

@@ -14,12 +14,12 @@ sub-if1 c = search needs
 add-if1 : tie.Need-add-if1
 add-if1 c = search needs
 
-at-requires : tie.Need-at-requires
-at-requires c κs = search needs
+here-requires : tie.Need-here-requires
+here-requires c κs = search needs
 
 returns : tie.Need-returns
 unfolding longBits bytesFor
-returns c = ap Stop (c .at .ensures) ∙ sym (ifEq-no _ _ _ _ (c .before .if1 .taken))
+returns c = ap Stop (c .here .ensures) ∙ sym (ifEq-no _ _ _ _ (c .before .if1 .taken))
 
 add-t5 : tie.Need-add-t5
 add-t5 c = search needs
@@ -32,4 +32,4 @@ unfolding longBits bytesFor
 returns-2 c = sym (ifEq-yes _ _ _ _ (c .if1 .left))
 
 pub long-bits-spec : {M : Type 1} → statement M
-long-bits-spec = tie.close (tie.spec sub-if1 add-if1 at-requires returns add-t5 add-t6 returns-2)
+long-bits-spec = tie.close (tie.spec sub-if1 add-if1 here-requires returns add-t5 add-t6 returns-2)

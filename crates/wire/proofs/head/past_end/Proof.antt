@@ -13,7 +13,7 @@ wants-requires c κs = search needs
 returns : tie.Need-returns
 returns c =
     let a = c .before .before .args in
-    c .wants .ensures ∙ ap (λ n. wants 0 n (a .k)) (sym (ap past (c .before .if1 .taken) ∙ past-outer))
+    c .wants .ensures ∙ ap (λ n. wants n (a .k)) (sym (ap past (c .before .if1 .taken) ∙ past-outer))
 
 wants-requires-2 : tie.Need-wants-requires-2
 wants-requires-2 c κs = search needs
@@ -21,7 +21,7 @@ wants-requires-2 c κs = search needs
 returns-2 : tie.Need-returns-2
 returns-2 c =
     let a = c .before .before .args in
-    c .wants2 .ensures ∙ ap (λ n. wants 0 n (a .k)) (sym (past-inner (a .depth) (c .before .if1 .left)))
+    c .wants2 .ensures ∙ ap (λ n. wants n (a .k)) (sym (past-inner (a .depth) (c .before .if1 .left)))
 
 pub past-end-spec : {M : Type 1} → statement M
 past-end-spec = tie.close (tie.spec wants-requires returns wants-requires-2 returns-2)

@@ -12,14 +12,14 @@ use borrow.Author.Needs.{needs}
 use Rattle.wire.proofs.head.repeat.Statement.{statement}
 use Rattle.wire.proofs.head.repeat.Tie as tie
 
-at-requires : tie.Need-at-requires
-at-requires c κs = search needs
+here-requires : tie.Need-here-requires
+here-requires c κs = search needs
 
 returns : tie.Need-returns
 returns c =
     let s = c .before .before .before .args .s .now in
-    subst (λ d. HeadIs s (Stop (c .at .result)) (headBy C.Repeat d 0xc4 s)) (sym (c .before .if1 .taken))
-    (stopped s _ (c .at .result) _ (c .at .ensures) (repeat-outer s))
+    subst (λ d. HeadIs s (Stop (c .here .result)) (headBy C.Repeat d 0xc4 s)) (sym (c .before .if1 .taken))
+    (stopped s _ (c .here .result) _ (c .here .ensures) (repeat-outer s))
 
 contents-of-requires : tie.Need-contents-of-requires
 contents-of-requires c κs = search needs
@@ -102,7 +102,7 @@ pub repeat-spec : {M : Type 1} → statement M
 repeat-spec =
     tie.close
     (tie.spec
-    at-requires
+    here-requires
     returns
     contents-of-requires
     enum-known-c

@@ -28,13 +28,13 @@ returns c =
 shared-slice-read-first : tie.Need-shared-slice-read-first
 shared-slice-read-first c = search needs
 
-at-requires : tie.Need-at-requires
-at-requires c κs = search needs
+here-requires : tie.Need-here-requires
+here-requires c κs = search needs
 
 returns-2 : tie.Need-returns-2
 returns-2 c =
     let a = c .before .before .before .before .before .before .args in
-    stopped (a .s .now) _ (c .at .result) _ (c .at .ensures) (sbitstr-bad (a .depth) (a .b) (c .before .before .before .before .following-of .result) (a .s .now) (c .before .before .before .before .following-of .ensures .0) (omega arith) (c .before .if2 .taken))
+    stopped (a .s .now) _ (c .here .result) _ (c .here .ensures) (sbitstr-bad (a .depth) (a .b) (c .before .before .before .before .following-of .result) (a .s .now) (c .before .before .before .before .following-of .ensures .0) (omega arith) (c .before .if2 .taken))
 
 ones-of-requires : tie.Need-ones-of-requires
 ones-of-requires c κs = search needs
@@ -78,7 +78,7 @@ sbitstr-spec =
     past-end-requires
     returns
     shared-slice-read-first
-    at-requires
+    here-requires
     returns-2
     ones-of-requires
     cast-zeros
