@@ -94,18 +94,14 @@ unfolding O.past
 past-inner zero n = absurd (n refl)
 past-inner (suc d) n = refl
 
-fixed-stop : (d k : ℕ) (s : List ℕ) (f : List ℕ → O.Head) (x : Fault) → length s < k → x ≡ wants (O.past d) (k - length s) → O.fixed d k s f ≡ O.stop x
+pub fixed-stop : (d b k : ℕ) (s : List ℕ) (f : List ℕ → O.Head) (x : Fault) → k ≡ O.following b → length s < k → x ≡ wants (O.past d) (k - length s)
+    → O.fixed d (O.following b) s f ≡ O.stop x
 unfolding O.fixed
-fixed-stop d k s f x h e = ifLt-yes (length s) k _ _ h ∙ ap O.stop (sym e)
+fixed-stop d b k s f x ek h e = ifLt-yes (length s) (O.following b) _ _ (rw ek at h) ∙ ap O.stop (sym (rw ek at e))
 
 fixed-go : (d k : ℕ) (s : List ℕ) (f : List ℕ → O.Head) → k ≤ length s → O.fixed d k s f ≡ f (take k s)
 unfolding O.fixed
 fixed-go d k s f h = ifLt-no (length s) k _ _ h
-
-pub linteger-stop : (d b k : ℕ) (s : List ℕ) (x : Fault) → k ≡ O.following b → length s < k → x ≡ wants (O.past d) (k - length s)
-    → HeadIs s (Stop x) (O.headBy C.Linteger d b s)
-unfolding O.headBy
-linteger-stop d b k s x ek h e = fixed-stop d (O.following b) s O.lintegerHead x (rw ek at h) (rw ek at e)
 
 -- the item of an LINTEGER whose bytes are there, and its row
 abbrev pub linteger-leaf : ℕ → List ℕ → Leaf
@@ -122,11 +118,6 @@ linteger-is k v s ev = int-row (O.integer (take k s)) v (sym ev)
 
 pub linteger-row : (d b k v : ℕ) (s : List ℕ) → k ≡ O.following b → k ≤ length s → v ≡ twos 8 (O.integer (take k s)) → HeadIs s (Row 1 v k) (O.headBy C.Linteger d b s)
 linteger-row d b k v s ek h ev = (linteger-leaf k s, linteger-head d b k s ek h, linteger-is k v s ev)
-
-pub sbitstr-stop : (d b k : ℕ) (s : List ℕ) (x : Fault) → k ≡ O.following b → length s < k → x ≡ wants (O.past d) (k - length s)
-    → HeadIs s (Stop x) (O.headBy C.Sbitstr d b s)
-unfolding O.headBy
-sbitstr-stop d b k s x ek h e = fixed-stop d (O.following b) s O.sbitstrHead x (rw ek at h) (rw ek at e)
 
 sbitstr-go : (d b k : ℕ) (s : List ℕ) → k ≡ O.following b → k ≤ length s → O.headBy C.Sbitstr d b s ≡ O.sbitstrHead (take k s)
 unfolding O.headBy

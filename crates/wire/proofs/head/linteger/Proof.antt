@@ -1,7 +1,8 @@
 -- `head::linteger` meets its contract. Assumes nothing.
 use native.Mathlib.Omega.{arith}
 use Rattle.format.proofs.SignedLaws.{handed-word}
-use Rattle.wire.proofs.HeadLaws.{linteger-stop, linteger-row}
+use Rattle.format.specs.Objects.{headBy, lintegerHead}
+use Rattle.wire.proofs.HeadLaws.{fixed-stop, linteger-row}
 use borrow.Author.Needs.{needs}
 use Rattle.wire.proofs.head.linteger.Statement.{statement}
 use Rattle.wire.proofs.head.linteger.Tie as tie
@@ -16,9 +17,10 @@ past-end-requires : tie.Need-past-end-requires
 past-end-requires c κs = search needs
 
 returns : tie.Need-returns
+unfolding headBy
 returns c =
     let a = c .before .before .before .before .args in
-    linteger-stop (a .depth) (a .b) (c .before .before .following-of .result) (a .s .now) (c .past-end .result) (c .before .before .following-of .ensures .0) (c .before .if1 .taken) (c .past-end .ensures)
+    fixed-stop (a .depth) (a .b) (c .before .before .following-of .result) (a .s .now) lintegerHead (c .past-end .result) (c .before .before .following-of .ensures .0) (c .before .if1 .taken) (c .past-end .ensures)
 
 integer-of-requires : tie.Need-integer-of-requires
 integer-of-requires c κs = search needs

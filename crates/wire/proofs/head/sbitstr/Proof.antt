@@ -6,7 +6,8 @@ use lib.ListN.{getD}
 use Rattle.format.proofs.Digits.{bytes-of}
 use Rattle.format.proofs.OnesLaws.{zeros-ones}
 use Rattle.wire.proofs.ShortBits.{zeros-few}
-use Rattle.wire.proofs.HeadLaws.{stopped, sbitstr-stop, sbitstr-bad, sbitstr-short}
+use Rattle.format.specs.Objects.{headBy, sbitstrHead}
+use Rattle.wire.proofs.HeadLaws.{stopped, fixed-stop, sbitstr-bad, sbitstr-short}
 use borrow.Author.Needs.{needs}
 use Rattle.wire.proofs.head.sbitstr.Statement.{statement}
 use Rattle.wire.proofs.head.sbitstr.Tie as tie
@@ -21,9 +22,10 @@ past-end-requires : tie.Need-past-end-requires
 past-end-requires c κs = search needs
 
 returns : tie.Need-returns
+unfolding headBy
 returns c =
     let a = c .before .before .before .before .args in
-    sbitstr-stop (a .depth) (a .b) (c .before .before .following-of .result) (a .s .now) (c .past-end .result) (c .before .before .following-of .ensures .0) (c .before .if1 .taken) (c .past-end .ensures)
+    fixed-stop (a .depth) (a .b) (c .before .before .following-of .result) (a .s .now) sbitstrHead (c .past-end .result) (c .before .before .following-of .ensures .0) (c .before .if1 .taken) (c .past-end .ensures)
 
 shared-slice-read-first : tie.Need-shared-slice-read-first
 shared-slice-read-first c = search needs
