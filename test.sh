@@ -131,7 +131,7 @@ lack() {
 
 tools() {
     local tool
-    for tool in rt cargo gcc g++ xxd valgrind flock python3 awk sed grep sort tee diff cmp find mktemp timeout; do
+    for tool in rt cargo gcc g++ nm xxd valgrind flock python3 awk sed grep sort tee diff cmp find mktemp timeout; do
         command -v "$tool" >/dev/null || lack "$tool is not there"
     done
     cargo fmt --version >/dev/null 2>&1 || lack 'cargo fmt (rustfmt) is not there'

@@ -1,10 +1,9 @@
 /*
  * Messages of the MSDTP (RFC 713): reading, writing and normalising.
  *
- *   msdtp_read           the bytes of a message to a table of its items
- *   msdtp_write          a table of items to the bytes of its normal form
- *   msdtp_normal_length  how many bytes that normal form has
- *   msdtp_normalise      the bytes of a message to the bytes of its normal form
+ *   msdtp_read       the bytes of a message to a table of its items
+ *   msdtp_write      a table of items to the bytes of its normal form
+ *   msdtp_normalise  the bytes of a message to the bytes of its normal form
  *
  * Link with libmsdtp.a. Everything that a caller needs to know stands here, in
  * this order: lent buffers, numbers, limits and sizes, the table, the
@@ -23,13 +22,14 @@ extern "C" {
 
 /*
  * This header belongs to the archive of the same version. What was compiled
- * with another must be compiled again: the answers' structures may have grown,
- * as they did in 0.4.0.
+ * with another must be compiled again. In 0.4.0 the answers' structures grew; in
+ * 0.5.0 the function that told only a length went: lend msdtp_write an empty
+ * output instead.
  */
 #define MSDTP_VERSION_MAJOR 0
-#define MSDTP_VERSION_MINOR 4
+#define MSDTP_VERSION_MINOR 5
 #define MSDTP_VERSION_PATCH 0
-#define MSDTP_VERSION "0.4.0"
+#define MSDTP_VERSION "0.5.0"
 
 /*
  * LENT BUFFERS
@@ -45,7 +45,8 @@ extern "C" {
  *   - An empty buffer may be null.
  *   - A table must be aligned as uint64_t is. Messages and outputs may begin
  *     anywhere.
- *   - Buffers lent to one call may not overlap.
+ *   - Buffers lent to one call may not overlap, and nobody else may change them
+ *     while it runs.
  *   - A buffer lent as const is never changed. What the others hold afterwards
  *     is told with each operation, for every answer. What they held before
  *     makes no difference to the answer.
@@ -68,7 +69,6 @@ typedef char msdtp_size_t_has_64_bits[sizeof(size_t) == 8 ? 1 : -1];
  * late (see the operations).
  *
  * msdtp_write gives 0 and 12 to 15, looked for in this order.
- * msdtp_normal_length gives 0 and 12 to 14, as writing does.
  * msdtp_normalise gives 0 to 11 as reading does, then 14 and 15. What was read
  * is well formed and not too deep, so 12 and 13 are never due.
  */
@@ -262,7 +262,18 @@ struct msdtp_reading msdtp_read(const uint8_t *message, size_t message_len,
  * `length` is the number of bytes of the normal form with 0 and 15, and
  * otherwise 0. With 0, the first `length` bytes of the output are the normal
  * form, and all bytes after them are as they were. With any other number the
- * whole output is as it was. MSDTP_OUTPUT_BYTES are always enough.
+ * whole output is as it was.
+ *
+ * The output lent decides only between 0 and 15: it is 15 exactly where the
+ * output is shorter than the normal form. The other numbers and `length` do not
+ * depend on it. So to ask for the length, lend an empty output, null or not: the
+ * answer is 15 with the length or, for a table of no items, 0 with length 0.
+ *
+ * The usual way to write is to lend what 15 tells until another number comes,
+ * as the example does. Each call judges the table as it then is: if it was
+ * changed between two calls, the answer is about the changed one, and nothing is
+ * written past the output lent. What 15 tells is more each time, so this ends. A
+ * caller of fixed room may lend MSDTP_OUTPUT_BYTES, which are always enough.
  */
 struct msdtp_writing {
     uint64_t number, length;
@@ -270,12 +281,6 @@ struct msdtp_writing {
 
 struct msdtp_writing msdtp_write(const uint64_t *table, size_t table_len,
                                  uint8_t *output, size_t output_len);
-
-/*
- * Tells the length of a table's normal form: what msdtp_write answers for an
- * output that is long enough. With 12, 13 and 14 `length` is 0.
- */
-struct msdtp_writing msdtp_normal_length(const uint64_t *table, size_t table_len);
 
 /*
  * Reads a message into a table, then writes the normal form of that table.
@@ -299,7 +304,26 @@ struct msdtp_normalising msdtp_normalise(const uint8_t *message, size_t message_
  *
  *     #include <inttypes.h>
  *     #include <stdio.h>
+ *     #include <stdlib.h>
  *     #include "msdtp.h"
+ *
+ *     // The usual way to write. The caller frees the output after any answer. It
+ *     // is null if nothing was lent, as for a table of no items. 15 is left only
+ *     // where there is no memory for so many bytes.
+ *     static struct msdtp_writing write_items(const uint64_t *table, size_t table_len,
+ *                                             uint8_t **output)
+ *     {
+ *         *output = NULL;
+ *         struct msdtp_writing w = msdtp_write(table, table_len, NULL, 0);
+ *         while (w.number == MSDTP_OUTPUT_SHORT) {
+ *             uint8_t *longer = (uint8_t *)realloc(*output, w.length);
+ *             if (longer == NULL)
+ *                 break;
+ *             *output = longer;
+ *             w = msdtp_write(table, table_len, longer, w.length);
+ *         }
+ *         return w;
+ *     }
  *
  *     // Two outermost items: a STRUC of the nine bits 001010011 and of a string,
  *     // "A"; and the INT -5. Five rows, so the data is at 4 + 3 * 5 = 19.
@@ -313,7 +337,6 @@ struct msdtp_normalising msdtp_normalise(const uint8_t *message, size_t message_
  *         UINT64_C(0x2980000000000000)
  *     };
  *     static uint64_t table[MSDTP_TABLE_WORDS];
- *     static uint8_t output[MSDTP_OUTPUT_BYTES];
  *
  *     static void print_bits(uint64_t count, uint64_t first)
  *     {
@@ -347,11 +370,14 @@ struct msdtp_normalising msdtp_normalise(const uint8_t *message, size_t message_
  *
  *     int main(void)
  *     {
- *         struct msdtp_writing w = msdtp_write(made, sizeof made / sizeof *made,
- *                                              output, sizeof output);
+ *         uint8_t *output;
+ *         struct msdtp_writing w = write_items(made, sizeof made / sizeof *made,
+ *                                              &output);
  *         printf("%s: %" PRIu64 " bytes\n", msdtp_meaning(w.number), w.length);
- *         if (w.number != MSDTP_ACCEPTED)
+ *         if (w.number != MSDTP_ACCEPTED) {
+ *             free(output);
  *             return 1;
+ *         }
  *         // The STRUC has come, and the INT's type-byte; the rest is late.
  *         uint64_t come = 9;
  *         struct msdtp_reading r = msdtp_read(output, come,
@@ -359,6 +385,7 @@ struct msdtp_normalising msdtp_normalise(const uint8_t *message, size_t message_
  *         printf("%s: %" PRIu64 " missing\n", msdtp_meaning(r.number), r.missing);
  *         if (r.number == MSDTP_PAST_INPUT)
  *             r = msdtp_read(output, come + r.missing, table, MSDTP_TABLE_WORDS);
+ *         free(output);
  *         printf("%s: %" PRIu64 " words\n", msdtp_meaning(r.number), r.words);
  *         if (r.number != MSDTP_ACCEPTED)
  *             return 1;

@@ -1,7 +1,8 @@
 #!/usr/bin/env bash
-# Checks include/msdtp.h, as C99 and as C++: that it compiles by itself, that the example in it compiles and prints what it says
-# there, and that what it tells holds of the archive (tests/header). The archive is that of target/staticlib, or of the folder
-# that MSDTP_LIB_DIR names. The last line is 'N passed, M failed', and the exit status is 0 only when nothing failed.
+# Checks include/msdtp.h: that it declares the archive's functions and no others; and, as C99 and as C++, that it compiles by
+# itself, that the example in it compiles and prints what it says there, and that what it tells holds of the archive
+# (tests/header). The archive is that of target/staticlib, or of the folder that MSDTP_LIB_DIR names. The last line is 'N passed,
+# M failed', and the exit status is 0 only when nothing failed.
 set -u
 cd "$(dirname "$0")/.." || exit 1
 archive=${MSDTP_LIB_DIR:-target/staticlib}/libmsdtp.a
@@ -22,6 +23,12 @@ lines_after() {
         on && (index($0, to) == 4 || $0 == " */") { exit }
         on { if (!sub(/^ \*     /, "")) sub(/^ \*/, ""); print }
         index($0, from) == 4 { on = 1 }' include/msdtp.h
+}
+
+# The functions that the header declares are those by whose names the archive can be called.
+functions() {
+    sed -nE 's/^[a-z0-9_ ]+ (msdtp_[a-z_]+)\(.*/\1/p' include/msdtp.h | sort >"$folder/declared"
+    test -s "$folder/declared" && nm -g --defined-only "$archive" | sed -nE 's/^.* T (msdtp_[a-z_]+)$/\1/p' | sort | diff "$folder/declared" -
 }
 
 # The example of the header prints what the header says that it prints.
@@ -45,6 +52,7 @@ version=$(sed -nE 's/^version = "(.*)"$/\1/p' bindings/rust/Cargo.toml)
 printf '#include "msdtp.h"\n#include "msdtp.h"\n' >"$folder/alone.c"
 lines_after 'AN EXAMPLE' 'It prints' >"$folder/example.c"
 lines_after 'It prints' 'END' | sed '/^$/d' >"$folder/prints"
+check 'the functions of the header and of the archive' functions
 check 'the example prints something' test -s "$folder/prints"
 for language in C99 C++; do
     check "$language: alone" compile "$language" -c "$folder/alone.c" -o "$folder/alone.o"

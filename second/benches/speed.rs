@@ -1,4 +1,5 @@
-//! How long reading and writing take, by kind of message.
+//! How long reading and writing take, by kind of message. To ask is to write
+//! with an empty output lent.
 
 use second::{normalise, read, write};
 use std::hint::black_box;
@@ -127,24 +128,28 @@ fn measure(load: &Load, calls: usize) {
     let writing = shortest(calls, || {
         black_box(write(black_box(&table[..words]), &mut output));
     });
+    let asking = shortest(calls, || {
+        black_box(write(black_box(&table[..words]), &mut []));
+    });
     let both = shortest(calls, || {
         black_box(normalise(black_box(message), &mut table, &mut output));
     });
     let units = load.units as f64;
     println!(
-        "{:24} {:8} {:9.2} {:9.2} {:9.2}",
+        "{:24} {:8} {:9.2} {:9.2} {:9.2} {:9.2}",
         load.name,
         load.unit,
         reading / units,
         writing / units,
+        asking / units,
         both / units
     );
 }
 
 fn main() {
     println!(
-        "{:24} {:8} {:>9} {:>9} {:>9}",
-        "ns for a", "", "read", "write", "normalise"
+        "{:24} {:8} {:>9} {:>9} {:>9} {:>9}",
+        "ns for a", "", "read", "write", "ask", "normalise"
     );
     let small = small_loads().into_iter().map(|load| (load, 50_000));
     let large = large_loads().into_iter().map(|load| (load, 60));

@@ -76,9 +76,9 @@ pub fn spare_bits(bits: u64) -> u64 {
     }
 }
 
-/// The length of the normal form of so many bits.
+/// The number of bytes of the normal form of so many bits.
 #[inline(always)]
-pub fn normal_length(bits: u64) -> usize {
+pub fn fewest_bytes(bits: u64) -> usize {
     if bits < 64 {
         return 1 + short_width(bits);
     }
@@ -92,10 +92,10 @@ pub fn short_width(bits: u64) -> usize {
     bits as usize / 8 + 1
 }
 
-/// The contents of an LBITSTR of so many bits: normal length, then the bytes.
+/// The contents of an LBITSTR of so many bits: their number, then their bytes.
 #[inline(always)]
 pub fn long_contents(bits: u64) -> usize {
-    integers::normal_length(bits) + bits.div_ceil(8) as usize
+    integers::fewest_bytes(bits) + bits.div_ceil(8) as usize
 }
 
 #[cfg(test)]

@@ -4,28 +4,28 @@
 //! |---|---|
 //! | `read HEX WORDS` | `number N place P words W missing M stray S table WORD..` |
 //! | `write BYTES WORD..` | `number N length L stray S output HEX` |
-//! | `length WORD..` | `number N length L` |
 //! | `normalise HEX WORDS BYTES` | `number N place P words W length L missing M stray S table WORD.. output HEX` |
 //! | `list HEX` | `text` and the listing, each of its newlines as `\n` |
 //!
 //! HEX is a run of hexadecimal digits, two for each byte, or `-` for no bytes;
 //! all else is decimal. WORDS and BYTES are the room lent. A table is answered
 //! up to the words used, an output up to the length written; where nothing was
-//! to be written there are no words, and `-` for the output. With numbers 2 and
-//! 3, `missing` tells how many bytes are wanting, at most 65,536; otherwise 0.
+//! to be written there are no words, and `-` for the output. `write 0 WORD..`
+//! asks the length alone. With numbers 2 and 3, `missing` tells how many bytes
+//! are wanting, at most 65,536; otherwise 0.
 //! The room is filled beforehand with numbers that say nothing; `stray` counts
 //! the words and bytes changed that should not have been. Anything else is
 //! answered with `error: ` and a help in one line.
 
 use crate::answers::{ACCEPTED, TABLE_TOO_SHORT};
-use crate::{listing, normal_length, normalise, read, write};
+use crate::{listing, normalise, read, write};
 use std::fmt::Write as _;
 
 /// The most words or bytes that a request may lend.
 const MOST_LENT: usize = 1 << 20;
 
-const HELP: &str = "read HEX WORDS | write BYTES WORD.. | length WORD.. | \
-                    normalise HEX WORDS BYTES | list HEX (HEX is - for no bytes)";
+const HELP: &str = "read HEX WORDS | write BYTES WORD.. | normalise HEX WORDS BYTES | \
+                    list HEX (HEX is - for no bytes)";
 
 /// The answer to one request, without a newline.
 pub fn answer(request: &str) -> String {
@@ -42,7 +42,6 @@ fn answer_to(request: &str) -> Result<String, String> {
     match (name, fields.as_slice()) {
         ("read", [message, words]) => Ok(read_answer(&bytes(message)?, lent(words)?)),
         ("write", [room, table @ ..]) => Ok(write_answer(lent(room)?, &words(table)?)),
-        ("length", table) => Ok(length_answer(&words(table)?)),
         ("normalise", [message, words, room]) => Ok(normalise_answer(
             &bytes(message)?,
             lent(words)?,
@@ -84,11 +83,6 @@ fn write_answer(lent: usize, table: &[u64]) -> String {
         writing.number, writing.length
     );
     with_bytes(head, &output[..used])
-}
-
-fn length_answer(table: &[u64]) -> String {
-    let writing = normal_length(table);
-    format!("number {} length {}", writing.number, writing.length)
 }
 
 fn normalise_answer(message: &[u8], lent_words: usize, lent_bytes: usize) -> String {

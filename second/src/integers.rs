@@ -37,9 +37,9 @@ pub fn unsigned(bytes: &[u8], from: usize, width: usize) -> Option<u64> {
     Some(high >> (64 - 8 * width as u32))
 }
 
-/// The length of an INT's normal form, type-byte included.
+/// The number of bytes of an INT's normal form, type-byte included.
 #[inline(always)]
-pub fn normal_length(value: u64) -> usize {
+pub fn fewest_bytes(value: u64) -> usize {
     if value < 64 {
         1
     } else {

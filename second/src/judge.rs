@@ -19,7 +19,7 @@ pub struct Parts<'t> {
 #[inline(always)]
 pub fn judge(table: &[u64]) -> Result<(Parts<'_>, usize), u64> {
     let parts = parts(table).ok_or(NOT_WELL_FORMED)?;
-    let length = match normal_length(&parts) {
+    let length = match measured(&parts) {
         Ok(length) => length,
         Err(ITEMS_TOO_DEEP) if !deep::is_well_formed(&parts) => return Err(NOT_WELL_FORMED),
         Err(number) => return Err(number),
@@ -46,9 +46,10 @@ fn parts(table: &[u64]) -> Option<Parts<'_>> {
     })
 }
 
-/// Judges the rows in order. A seventeenth nested row stops it with 13, which
-/// holds only if the rest of the table is well formed.
-fn normal_length(parts: &Parts) -> Result<usize, u64> {
+/// The bytes of the normal form, the rows being judged in order. A seventeenth
+/// nested row stops it with 13, which holds only if the rest of the table is
+/// well formed.
+fn measured(parts: &Parts) -> Result<usize, u64> {
     let mut judging = Judging {
         data: parts.data,
         used: 0,
@@ -85,7 +86,7 @@ impl Judging<'_> {
             let (count, taken, length) = match rest[0] {
                 [kinds::CHAR, 0, 0..=0x7F] => stretch::<{ kinds::CHAR }, 7>(rest),
                 [kinds::INT, 0, 0..=0x3F] => stretch::<{ kinds::INT }, 6>(rest),
-                [kinds::INT, 0, value] => (1, 1, integers::normal_length(value)),
+                [kinds::INT, 0, value] => (1, 1, integers::fewest_bytes(value)),
                 [kinds::BITS, bits, word] => (1, 1, self.bits(bits, word)?),
                 [kinds::STRUC | kinds::EDT, ..] => self.container(rest, inside)?,
                 row if is_small_leaf(row) => (1, 1, 1),
@@ -101,7 +102,7 @@ impl Judging<'_> {
     #[inline(always)]
     fn bits(&mut self, bits: u64, word: u64) -> Result<usize, u64> {
         self.used = after_bits(self.data, self.used, bits, word).ok_or(NOT_WELL_FORMED)?;
-        Ok(bits::normal_length(bits))
+        Ok(bits::fewest_bytes(bits))
     }
 
     #[inline(always)]

@@ -33,4 +33,4 @@ pub use answers::{MOST_BYTES, MOST_DATA_WORDS, MOST_MISSING, MOST_NESTED, MOST_R
 pub use listing::{listing, LISTING_BYTES, LISTING_WORDS};
 pub use normal::normalise;
 pub use read::read;
-pub use write::{normal_length, write};
+pub use write::write;

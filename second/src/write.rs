@@ -5,7 +5,9 @@ use crate::emit;
 use crate::judge::judge;
 
 /// Writes a table's normal form into a lent output. A refusal leaves the
-/// output as it was; bytes past the length are never changed.
+/// output as it was; bytes past the length are never changed. Who wants only
+/// the length lends an empty output: number 15 tells it, and number 0 is that
+/// of a table of no items.
 pub fn write(table: &[u64], output: &mut [u8]) -> Writing {
     let (parts, length) = match judge(table) {
         Ok(judged) => judged,
@@ -16,14 +18,6 @@ pub fn write(table: &[u64], output: &mut [u8]) -> Writing {
         None => return answer(OUTPUT_TOO_SHORT, length),
     }
     answer(ACCEPTED, length)
-}
-
-/// Tells the length of a table's normal form.
-pub fn normal_length(table: &[u64]) -> Writing {
-    match judge(table) {
-        Ok((_, length)) => answer(ACCEPTED, length),
-        Err(number) => answer(number, 0),
-    }
 }
 
 fn answer(number: u64, length: usize) -> Writing {

@@ -100,25 +100,36 @@ int accepted_read(size_t length, size_t room, uint64_t words)
         && table_untouched(words);
 }
 
+/* Whether writing into so much of an output answers this, and every made word is as it was. */
+static int writes(size_t words, uint8_t *to, size_t room, uint64_t number, uint64_t length)
+{
+    static uint64_t sent[WORDS];
+    struct msdtp_writing w;
+
+    memcpy(sent, made, sizeof sent);
+    w = msdtp_write(made, words, to, room);
+    return is(w.number, number) && w.length == length && memcmp(sent, made, sizeof sent) == 0;
+}
+
+/* An empty output gets this answer, null or not. */
+static int asked(size_t words, uint64_t number, uint64_t length)
+{
+    return writes(words, NULL, 0, number, length) && writes(words, output, 0, number, length);
+}
+
 int refused_write(size_t words, size_t room, uint64_t number, uint64_t length)
 {
-    struct msdtp_writing w, l;
-
     refill();
-    w = msdtp_write(made, words, output, room);
-    l = msdtp_normal_length(made, words);
-    return is(w.number, number) && w.length == length && output_untouched(0)
-        && l.number == (number == MSDTP_OUTPUT_SHORT ? MSDTP_ACCEPTED : number)
-        && l.length == length;
+    return asked(words, number, length) && writes(words, output, room, number, length)
+        && (number == MSDTP_OUTPUT_SHORT
+            || writes(words, output, MSDTP_OUTPUT_BYTES, number, length))
+        && output_untouched(0);
 }
 
 int accepted_write(size_t words, size_t room, uint64_t length)
 {
-    struct msdtp_writing w, l;
-
     refill();
-    w = msdtp_write(made, words, output, room);
-    l = msdtp_normal_length(made, words);
-    return is(w.number, MSDTP_ACCEPTED) && w.length == length && output_untouched(length)
-        && l.number == MSDTP_ACCEPTED && l.length == length;
+    return asked(words, length > 0 ? MSDTP_OUTPUT_SHORT : MSDTP_ACCEPTED, length)
+        && output_untouched(0)
+        && writes(words, output, room, MSDTP_ACCEPTED, length) && output_untouched(length);
 }

@@ -40,17 +40,24 @@ int cut_read(size_t length, uint64_t number, uint64_t place, uint64_t missing);
 /* The message is read with so many words, and nothing past them is touched. */
 int accepted_read(size_t length, size_t room, uint64_t words);
 
-/* Writing the made table is refused and touches nothing; so is its length, but with 15. */
+/*
+ * Writing the made table is refused and touches nothing: with so much room, with
+ * an empty output, null or not, and but for 15 with one of always enough.
+ */
 int refused_write(size_t words, size_t room, uint64_t number, uint64_t length);
 
-/* The made table is written in so many bytes, and nothing past them is touched. */
+/*
+ * The made table is written in so many bytes, and nothing past them is touched.
+ * An empty output, null or not, tells so many: with 15, or with 0 if none.
+ */
 int accepted_write(size_t words, size_t room, uint64_t length);
 
 /* msdtp_meaning as another translation unit has it. */
 const char *meaning_elsewhere(uint64_t number);
 
-/* The checks of tables.c, of missing.c and of limits.c. */
+/* The checks of tables.c, of writing.c, of missing.c and of limits.c. */
 void check_tables(void);
+void check_writing(void);
 void check_missing(void);
 void check_limits(void);
 

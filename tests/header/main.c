@@ -111,7 +111,7 @@ static void check_null(void)
           msdtp_normalise(NULL, 0, table, MSDTP_HEADER_WORDS, NULL, 0).number == MSDTP_ACCEPTED);
     check("null: no output", msdtp_write(table, MSDTP_HEADER_WORDS, NULL, 0).number == MSDTP_ACCEPTED);
     check("null: no table", msdtp_write(NULL, 0, NULL, 0).number == MSDTP_NOT_A_TABLE
-          && msdtp_normal_length(NULL, 0).number == MSDTP_NOT_A_TABLE);
+          && msdtp_write(NULL, 0, output, MSDTP_OUTPUT_BYTES).number == MSDTP_NOT_A_TABLE);
 }
 
 /* Each of the numbers was answered in some check. */
@@ -132,6 +132,7 @@ int main(int count, char **arguments)
     check_fields();
     check_meanings();
     check_tables();
+    check_writing();
     check_reading();
     check_missing();
     check_one_kind();

@@ -51,6 +51,8 @@ static void check_all_kinds(void)
 {
     const size_t length = sizeof bytes_of_all;
     struct msdtp_normalising n;
+    size_t room;
+    int good = 1;
 
     memset(made, FILLER, sizeof made);
     memcpy(made, words_of_all, sizeof words_of_all);
@@ -58,6 +60,10 @@ static void check_all_kinds(void)
           && memcmp(output, bytes_of_all, length) == 0);
     check("all kinds: words past the data are not looked at",
           accepted_write(WORDS, length, length) && memcmp(output, bytes_of_all, length) == 0);
+    for (room = 0; room < length; room++) {
+        good = good && refused_write(USED, room, MSDTP_OUTPUT_SHORT, length);
+    }
+    check("all kinds: every output too short", good);
     check("all kinds: lent not whole", refused_write(USED - 1, length, MSDTP_NOT_A_TABLE, 0));
     memcpy(message + 1, bytes_of_all, length);
     memset(message, 0xFF, 1); /* padding */

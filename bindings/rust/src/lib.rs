@@ -37,7 +37,7 @@ mod rows;
 pub mod sys;
 
 pub use bits::Bits;
-pub use operations::{normal_length, normalise, read, write, Normalised, Read};
+pub use operations::{normalise, read, write, Normalised, Read};
 pub use refused::Refused;
 pub use rows::{rows, Items, Row, Rows};
 

@@ -1,5 +1,5 @@
 //! The static library behind safe functions. All the unsafe code of this crate
-//! is here: four calls. A slice is passed as its pointer and its length; an
+//! is here: three calls. A slice is passed as its pointer and its length; an
 //! empty one may have any pointer. Slices that are borrowed as these are cannot
 //! overlap where one of them is written to.
 
@@ -17,12 +17,6 @@ pub fn write(table: &[u64], output: &mut [u8]) -> Writing {
     let (bytes, to) = (output.len(), output.as_mut_ptr());
     // Both slices live through the call, and the output is borrowed for it alone.
     unsafe { sys::msdtp_write(table.as_ptr(), table.len(), to, bytes) }
-}
-
-/// Tells the length of a table's normal form.
-pub fn normal_length(table: &[u64]) -> Writing {
-    // The slice lives through the call.
-    unsafe { sys::msdtp_normal_length(table.as_ptr(), table.len()) }
 }
 
 /// Reads a message into a table and writes its normal form.

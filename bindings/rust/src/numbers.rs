@@ -2,9 +2,9 @@
 //! `msdtp.h`.
 //!
 //! [`read`](crate::read) is refused with 1 to 11, [`write`](crate::write) with
-//! 12 to 15, [`normal_length`](crate::normal_length) with 12 to 14, and
-//! [`normalise`](crate::normalise) with 1 to 11, 14 and 15. What each says in
-//! plain words is told by [`Refused::meaning`](crate::Refused::meaning).
+//! 12 to 15, and [`normalise`](crate::normalise) with 1 to 11, 14 and 15. What
+//! each says in plain words is told by
+//! [`Refused::meaning`](crate::Refused::meaning).
 //!
 //! ```
 //! use msdtp::{numbers, read};

@@ -1,9 +1,8 @@
-//! The four operations, with answers as results.
+//! The three operations, with answers as results.
 
 use crate::library;
 use crate::numbers::{ACCEPTED, TABLE_SHORT, TOO_LONG};
 use crate::refused::Refused;
-use crate::sys::Writing;
 
 /// What an accepted reading answers.
 #[derive(Clone, Copy, Debug, PartialEq, Eq)]
@@ -115,30 +114,50 @@ pub fn read(message: &[u8], table: &mut [u64]) -> Result<Read, Refused> {
 /// let mut output = [0; 4];
 /// assert_eq!(msdtp::write(&table, &mut output)?, 1);
 /// assert_eq!(output, [0x8A, 0, 0, 0]);
+/// # Ok::<(), msdtp::Refused>(())
+/// ```
 ///
-/// let refused = msdtp::write(&table, &mut []).unwrap_err();
-/// assert_eq!((refused.number, refused.needed), (15, 1));
+/// # The length alone
+///
+/// The output lent decides only between an accepted writing and number 15,
+/// which comes exactly where the output is shorter than the normal form. The
+/// length, and the refusals 12, 13 and 14, do not depend on it. So the length is
+/// asked with an empty output: 15 tells it as [`needed`](Refused::needed), and a
+/// table of no items is accepted with length 0.
+///
+/// ```
+/// // One row, an INT of 4096.
+/// let short = msdtp::write(&[1, 1, 7, 0, 1, 0, 4096], &mut []).unwrap_err();
+/// assert_eq!((short.number, short.needed), (15, 3));
+///
+/// // No items.
+/// assert_eq!(msdtp::write(&[0, 0, 4, 0], &mut []), Ok(0));
+/// ```
+///
+/// # The usual way to write
+///
+/// Lend what 15 tells until another answer comes. Each call judges the table as
+/// it then is: if it was changed between two calls, the answer is about the
+/// changed one, and nothing is written past the output lent. What 15 tells is
+/// more each time, so this ends.
+///
+/// ```
+/// use msdtp::{numbers::OUTPUT_SHORT, write};
+///
+/// let table = [1, 1, 7, 0, 1, 0, 4096];
+/// let mut output = vec![];
+/// let length = loop {
+///     match write(&table, &mut output) {
+///         Err(short) if short.number == OUTPUT_SHORT => output.resize(short.needed, 0),
+///         answer => break answer?,
+///     }
+/// };
+/// output.truncate(length);
+/// assert_eq!(output, [0xE2, 0x10, 0x00]);
 /// # Ok::<(), msdtp::Refused>(())
 /// ```
 pub fn write(table: &[u64], output: &mut [u8]) -> Result<usize, Refused> {
-    written(library::write(table, output))
-}
-
-/// Tells the length of a table's normal form. It refuses with 12, 13 and 14 as
-/// writing does.
-///
-/// ```
-/// let table = [1, 1, 7, 0, 1, 0, 4096];
-/// assert_eq!(msdtp::normal_length(&table)?, 3);
-/// assert_eq!(msdtp::normal_length(&[]).unwrap_err().number, 12);
-/// # Ok::<(), msdtp::Refused>(())
-/// ```
-pub fn normal_length(table: &[u64]) -> Result<usize, Refused> {
-    written(library::normal_length(table))
-}
-
-/// What writing answers, as a result.
-fn written(answer: Writing) -> Result<usize, Refused> {
+    let answer = library::write(table, output);
     let length = answer.length as usize;
     match answer.number {
         ACCEPTED => Ok(length),

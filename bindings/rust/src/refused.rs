@@ -58,7 +58,7 @@ impl Refused {
     /// What the number says, in a few plain words.
     ///
     /// ```
-    /// let refused = msdtp::normal_length(&[]).unwrap_err();
+    /// let refused = msdtp::write(&[], &mut []).unwrap_err();
     /// assert_eq!(refused.meaning(), "what was given to write is no table of items");
     /// ```
     pub fn meaning(&self) -> &'static str {

@@ -99,8 +99,9 @@ pub struct Rows<'t> {
 /// are no rows, and the rows end before the first that cannot be one, by its
 /// kind, its code, bits that are not in the data, or rows beneath that are not
 /// in the table. Whether a table is well formed is told by
-/// [`normal_length`](crate::normal_length), which then gives any answer but a
-/// refusal with 12. Words past the table's data are not looked at.
+/// [`write`](crate::write), whatever output is lent, an empty one too: it then
+/// gives any answer but a refusal with 12. Words past the table's data are not
+/// looked at.
 ///
 /// ```
 /// use msdtp::{read, rows, Row};

@@ -2,7 +2,8 @@
 //! interface itself. The functions of the crate's root are the safe ones.
 //!
 //! A slice is passed as its pointer and its length. An empty one may have any
-//! pointer, null too. Lent buffers may not overlap.
+//! pointer, null too. Lent buffers may not overlap, and nobody else may change
+//! them while the call runs.
 
 /// Reading's answer: 0 or a refusal's number, its place, the words used or
 /// needed, and the bytes missing.
@@ -64,9 +65,6 @@ extern "C" {
         output: *mut u8,
         output_len: usize,
     ) -> Writing;
-
-    /// Tells the length of the normal form of a table's items.
-    pub fn msdtp_normal_length(table: *const u64, table_len: usize) -> Writing;
 
     /// Reads a message into a lent table and writes its normal form.
     pub fn msdtp_normalise(

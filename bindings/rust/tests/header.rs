@@ -1,5 +1,5 @@
 //! The crate and the C header agree: constants, version, words, the fields of
-//! the answers.
+//! the answers, the functions.
 
 use msdtp::sys::{Normalising, Reading, Writing};
 use msdtp::{kinds, numbers, Refused};
@@ -102,7 +102,7 @@ fn words<'h>(header: &'h str, label: &str) -> Vec<&'h str> {
 
 /// A refusal with this number in place of its own.
 fn refused(number: u64) -> Refused {
-    let mut refused = msdtp::normal_length(&[]).unwrap_err();
+    let mut refused = msdtp::write(&[], &mut []).unwrap_err();
     refused.number = number;
     refused
 }
@@ -157,4 +157,27 @@ fn the_fields_are_those_of_the_header() {
         fields(&header, "msdtp_normalising"),
         fields_of!(Normalising: number, place, words, length, missing)
     );
+}
+
+/// The functions that the header declares, in its order. `msdtp_meaning` is not
+/// in the archive, and so is not among them.
+fn of_header(header: &str) -> Vec<&str> {
+    let lines = header.lines().filter_map(|line| line.split_once('('));
+    let fronts = lines.filter_map(|(front, _)| front.strip_prefix("struct "));
+    let names = fronts.filter_map(|front| front.split_once(' '));
+    names.map(|(_, name)| name).collect()
+}
+
+/// The functions that `sys` declares, in its order.
+fn of_sys() -> Vec<&'static str> {
+    let lines = include_str!("../src/sys.rs").lines().map(str::trim);
+    let lines = lines.filter_map(|line| line.strip_prefix("pub fn "));
+    let names = lines.filter_map(|line| line.split_once('('));
+    names.map(|(name, _)| name).collect()
+}
+
+#[test]
+fn the_functions_are_those_of_the_header() {
+    assert_eq!(of_header(&header()), of_sys());
+    assert!(!of_sys().is_empty());
 }

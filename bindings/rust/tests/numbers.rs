@@ -1,29 +1,15 @@
 //! Every number from 0 to 15, reached through the crate.
 
-use msdtp::{normal_length, normalise, read, rows, write};
+mod tables;
+
+use msdtp::{normalise, read, rows, write};
 use msdtp::{Normalised, Read, Refused, Row, OUTPUT_BYTES, TABLE_WORDS};
+use tables::{table_of_bits, table_of_boxes};
 
 /// Contents of fewer than 128 bytes inside so many STRUCs.
 fn boxes(count: usize, contents: &[u8]) -> Vec<u8> {
     let around = |inner: Vec<u8>, _| [vec![0xC2, inner.len() as u8], inner].concat();
     (0..count).fold(contents.to_vec(), around)
-}
-
-/// A table of so many STRUCs, one inside the other.
-fn table_of_boxes(count: u64) -> Vec<u64> {
-    let rows = (0..count).rev();
-    let rows = rows.flat_map(|beneath| [7, beneath.min(1), beneath]);
-    [count, 1, 4 + 3 * count, 0]
-        .into_iter()
-        .chain(rows)
-        .collect()
-}
-
-/// A table of one BITS item with so many data words, all full.
-fn table_of_bits(words: u64) -> Vec<u64> {
-    let header_and_row = [1, 1, 7, words, 2, 64 * words, 0];
-    let data = vec![u64::MAX; words as usize];
-    [header_and_row.to_vec(), data].concat()
 }
 
 /// Refused by reading and by normalising alike, with everything untouched.
@@ -37,10 +23,11 @@ fn refused_reading(message: &[u8], words: usize) -> Refused {
     refused
 }
 
-/// Refused by writing, with the output untouched.
+/// Refused by writing, and alike with an empty output, with everything untouched.
 fn refused_writing(table: &[u64], bytes: usize) -> Refused {
     let mut output = vec![7; bytes];
     let refused = write(table, &mut output).unwrap_err();
+    assert_eq!(write(table, &mut []), Err(refused));
     assert!(output.iter().all(|&byte| byte == 7), "{refused}");
     refused
 }
@@ -101,11 +88,6 @@ fn writing_gives_12_to_15() {
         assert_eq!((refused.number, refused.needed), (number, needed));
         assert_eq!((refused.place, refused.words), (0, 0));
         assert_eq!(refused.missing, 0);
-        let length = normal_length(&table);
-        match number {
-            15 => assert_eq!(length, Ok(needed)),
-            _ => assert_eq!(length, Err(refused)),
-        }
     }
 }
 
@@ -138,7 +120,8 @@ fn all_give_0() {
     let words = 4 + 3 * 17;
     assert_eq!(read(&message, &mut table), Ok(Read { words }));
     assert!(table[words..].iter().all(|&word| word == 7));
-    assert_eq!(normal_length(&table), Ok(normal.len()));
+    let short = write(&table, &mut []).unwrap_err();
+    assert_eq!((short.number, short.needed), (15, normal.len()));
     assert_eq!(write(&table, &mut output), Ok(normal.len()));
     assert_eq!(output[..normal.len()], normal);
     assert!(output[normal.len()..].iter().all(|&byte| byte == 7));
@@ -157,7 +140,6 @@ fn empty_slices() {
     let refused = normalise(&[], &mut [], &mut []).unwrap_err();
     assert_eq!((refused.number, refused.needed), (11, 4));
     assert_eq!(write(&[], &mut []).unwrap_err().number, 12);
-    assert_eq!(normal_length(&[]).unwrap_err().number, 12);
     assert_eq!(rows(&[]).next(), None);
 
     let mut table = [7; 4];

@@ -1,17 +1,17 @@
 -- Every line marked P and every message that an ask names holds, by computing. Assumes nothing.
 use mathlib.Core.Path.{refl}
 use Rattle.format.specs.Messages.{outcome}
-use Rattle.format.specs.Answers.{reading, normalising}
+use Rattle.format.specs.Answers.{reading, writing, normalising}
 use Rattle.format.specs.Examples.{examples, hugeRepeat, strucFirst, cuts, Holds, All}
 
 pub examples-hold : All examples
-unfolding examples outcome reading normalising
+unfolding examples outcome reading writing normalising
 examples-hold =
-    ((refl, refl, refl), ((refl, refl, refl), ((refl, refl, refl), ((refl, refl, refl), ((refl, refl, refl), ((refl, refl, refl), ((refl, refl, refl), ((refl, refl, refl), ((refl, refl, refl), ((refl, refl, refl), ((refl, refl, refl), ((refl, refl, refl), (λ t. refl, (λ t. refl, ((refl, refl, refl), tt)))))))))))))))
+    ((refl, refl, refl, refl), ((refl, refl, refl, refl), ((refl, refl, refl, refl), ((refl, refl, refl, refl), ((refl, refl, refl, refl), ((refl, refl, refl, refl), ((refl, refl, refl, refl), ((refl, refl, refl, refl), ((refl, refl, refl, refl), ((refl, refl, refl, refl), ((refl, refl, refl, refl), ((refl, refl, refl, refl), (λ t. refl, (λ t. refl, ((refl, refl, refl, refl), tt)))))))))))))))
 
 pub huge-repeat-holds : Holds hugeRepeat
-unfolding hugeRepeat outcome reading normalising
-huge-repeat-holds = (refl, refl, refl)
+unfolding hugeRepeat outcome reading writing normalising
+huge-repeat-holds = (refl, refl, refl, refl)
 
 pub struc-first-holds : Holds strucFirst
 unfolding strucFirst outcome reading

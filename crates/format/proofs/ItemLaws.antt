@@ -1,15 +1,18 @@
 -- Items joined and repeated: whether they are proper, how deep they are, and their normal form. Assumes nothing.
 use mathlib.Core.Path.{_≡_, refl, sym, ap, _∙_}
-use Prim.Native.Nat.{ℕ, zero, suc, _+_, _≤_, max}
+use Prim.Native.Nat.{ℕ, zero, suc, _+_, _≤_, _<_, max}
 use native.Mathlib.Omega.{arith}
 use mathlib.Core.Bool.{true}
-use mathlib.Core.List.{_∷_, _++_, append-assoc}
+use mathlib.Core.List.{[], _∷_, _++_, append-assoc}
 use lib.ListN.{length, length-append}
+use lib.IntN.{pos, negsuc}
 use Rattle.format.specs.Choice.{both}
-use Rattle.format.specs.Items.{Leaf, Group, Items, end, leaf, group, join, times, properLeaf, properGroup, proper}
-use Rattle.format.specs.Normal.{normalSize, withSize, normalLeaf, groupByte, normal, depth}
-use Rattle.format.proofs.Choices.{both-left, both-right, both-true}
-use Rattle.format.proofs.Sizes.{sized-length}
+use Rattle.format.specs.Bits.{num, packed, bytesFor}
+use Rattle.format.specs.Items.{Leaf, int, bits, char, bool, empty, xtra, Group, Items, end, leaf, group, join, times, properLeaf, properGroup, proper}
+use Rattle.format.specs.Tables.{rows}
+use Rattle.format.specs.Normal.{normalSize, withSize, linteger, normalInt, sbitstr, normalBits, normalLeaf, groupByte, normal, depth}
+use Rattle.format.proofs.Choices.{both-left, both-right, both-true, byLt}
+use Rattle.format.proofs.Sizes.{size-pos, sized-length}
 
 -- ---- what `proper` says of an item and of the rest, both ways
 pub leaf-proper : (l : Leaf) (xs : Items) → proper (leaf l xs) ≡ true → (properLeaf l ≡ true) × (proper xs ≡ true)
@@ -87,3 +90,33 @@ length-group g c xs = ap suc (length-append (withSize (normal c)) (normal xs) �
 
 pub length-join : (xs ys : Items) → length (normal (join xs ys)) ≡ length (normal xs) + length (normal ys)
 length-join xs ys = ap length (join-normal xs ys) ∙ length-append (normal xs) (normal ys)
+
+leaf-pos : (l : Leaf) → 0 < length (normalLeaf l)
+unfolding normalLeaf normalInt linteger normalBits sbitstr
+leaf-pos (int (pos n)) = byLt (λ l. 0 < length l) n 64 {x = (0x80 + n) ∷ []} {y = linteger (pos n)} (λ h. omega arith) (λ h. omega arith)
+leaf-pos (int (negsuc n)) = omega arith
+leaf-pos (bits bs) = byLt (λ l. 0 < length l) (length bs) 64 {x = sbitstr (num (true ∷ bs))} {y = 0xc1 ∷ withSize (normalInt (pos (length bs)) ++ packed 8 (bytesFor (length bs)) bs)} (λ h. omega arith) (λ h. omega arith)
+leaf-pos (char c) = omega arith
+leaf-pos (bool b) = omega arith
+leaf-pos empty = omega arith
+leaf-pos (xtra n) = omega arith
+
+-- every row has a byte at least
+pub rows-least : (xs : Items) → rows xs ≤ length (normal xs)
+unfolding rows
+rows-least end = omega arith
+rows-least (leaf l xs) = omega (arith, rows-least xs, leaf-pos l, length-leaf l xs)
+rows-least (group g c xs) = omega (arith, rows-least c, rows-least xs, size-pos (length (normal c)), length-group g c xs)
+
+-- no rows, no bytes; and no bytes, no items
+pub rows-none : (xs : Items) → rows xs ≡ 0 → length (normal xs) ≡ 0
+unfolding rows
+rows-none end e = length-end
+rows-none (leaf l xs) e = absurd (omega arith)
+rows-none (group g c xs) e = absurd (omega arith)
+
+pub bytes-none : (xs : Items) → length (normal xs) ≡ 0 → xs ≡ end
+unfolding rows
+bytes-none end e = refl
+bytes-none (leaf l xs) e = absurd (omega (arith, rows-least (leaf l xs)))
+bytes-none (group g c xs) e = absurd (omega (arith, rows-least (group g c xs)))

@@ -1,7 +1,7 @@
--- The answers of the four public operations, each one function of what is lent, with what every lent word and byte is afterwards.
+-- The answers of the three public operations, each one function of what is lent, with what every lent word and byte is afterwards.
 use Prim.Native.Nat.{ℕ}
 use mathlib.Core.Option.{Option, none, some}
-use mathlib.Core.List.{List, [], _++_}
+use mathlib.Core.List.{List, _++_}
 use lib.ListN.{length, drop}
 use Rattle.format.specs.Choice.{ifLt, ifEq}
 use Rattle.format.specs.declared.fault.Fault.{Fault}
@@ -59,29 +59,24 @@ pub record Writing : Type 0 where
 abbrev pub unwritten : ℕ → ℕ → List ℕ → Writing
 unwritten why n o = record { number = why; length = n; output = o }
 
--- "Writing order: 12, 13, 14, 15." What follows 14 is left to `f`.
-unfoldable pub judged : Option Items → List ℕ → (List ℕ → Writing) → Writing
-unfolding ifLt depth normal
-judged none o f = unwritten not-a-table 0 o
-judged (some xs) o f =
-    ifLt depthLimit (depth xs) (unwritten too-nested 0 o)
-    (ifLt byteLimit (length (normal xs)) (unwritten normal-long 0 o) (f (normal xs)))
-
+-- "written (0) or needed (15)"
 unfoldable pub put : List ℕ → List ℕ → Writing
 unfolding ifLt over
 put o l = ifLt (length o) (length l) (unwritten output-short (length l) o) (record { number = 0; length = length l; output = over l o })
 
+-- "Writing order: 12, 13, 14, 15."
+unfoldable pub writingOf : Option Items → List ℕ → Writing
+unfolding ifLt depth normal put
+writingOf none o = unwritten not-a-table 0 o
+writingOf (some xs) o =
+    ifLt depthLimit (depth xs) (unwritten too-nested 0 o)
+    (ifLt byteLimit (length (normal xs)) (unwritten normal-long 0 o) (put o (normal xs)))
+
+-- "One call to write": "A caller that wants only the length lends an empty output: it receives 15 with the length needed, or length
+-- 0 with result 0 for a table of no items."
 unfoldable pub writing : List ℕ → List ℕ → Writing
-unfolding judged itemsOf put
-writing w o = judged (itemsOf w) o (put o)
-
--- "A separate operation tells a table's normal length, refusing with 12, 13, 14 alike." It is lent no output.
-unfoldable pub told : List ℕ → Writing
-told l = record { number = 0; length = length l; output = [] }
-
-unfoldable pub normalLength : List ℕ → Writing
-unfolding judged itemsOf told
-normalLength w = judged (itemsOf w) [] told
+unfolding writingOf itemsOf
+writing w o = writingOf (itemsOf w) o
 
 -- "Normalising reads, then writes, and returns the first refusal with reading's place and words and writing's length (0 if
 -- reading refuses); if writing refuses, the table holds the reading and the output is untouched." The missing bytes are reading's:

@@ -8,7 +8,7 @@ use lib.ListN.{length, replicate}
 use lib.IntN.{pos, negsuc}
 use Rattle.format.specs.Items.{int, bits, char, empty, struc, Items, end, leaf, group, one}
 use Rattle.format.specs.Messages.{says, outcome}
-use Rattle.format.specs.Answers.{reading, normalising}
+use Rattle.format.specs.Answers.{reading, Writing, unwritten, writing, normalising}
 
 -- A message with its items, its whole table and its normal form; or with the number, the place and the missing bytes of its refusal.
 pub data Example : Type 0 where
@@ -171,12 +171,19 @@ cuts =
 abbrev pub lent : ℕ → List ℕ
 lent n = replicate (n + 2) 7
 
--- The message says the items; reading answers 0 and lays out the table; normalising answers 0 and gives the normal form. A
--- refusal answers its number, its place and the missing bytes, and leaves any table as it was.
+-- Ask 10: "it receives 15 with the length needed, or length 0 with result 0 for a table of no items"
+abbrev pub asked : List ℕ → Writing
+asked [] = unwritten 0 0 []
+asked (x ∷ l) = unwritten 15 (length (x ∷ l)) []
+
+-- The message says the items; reading answers 0 and lays out the table; writing that table answers its length where the output is
+-- empty; normalising answers 0 and gives the normal form. A refusal answers its number, its place and the missing bytes, and leaves
+-- any table as it was.
 abbrev pub Holds : Example → Type 0
 Holds (accepted m xs t l) =
     (outcome m ≡ says xs)
     × (reading m (lent (length t)) ≡ record { number = 0; place = 0; words = length t; missing = 0; table = t ++ (7 ∷ 7 ∷ []) })
+    × (writing t [] ≡ asked l)
     × (normalising m (lent (length t)) (lent (length l))
     ≡ record {
       number = 0;

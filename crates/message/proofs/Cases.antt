@@ -1,4 +1,4 @@
--- What holds of the four answers case by case: the ground of the theorems in Demands.antt, ReadExactly.antt,
+-- What holds of the three answers case by case: the ground of the theorems in Demands.antt, ReadExactly.antt,
 -- WriteExactly.antt and NormaliseExactly.antt. Assumes nothing.
 use Prim.Native.Nat.{ℕ, _≤_, _<_}
 use mathlib.Core.Path.{_≡_, refl, sym, ap, _∙_, subst}
@@ -13,7 +13,7 @@ use Rattle.format.specs.Items.{Items}
 use Rattle.format.specs.Messages.{Outcome, refused, says, outcome}
 use Rattle.format.specs.Tables.{rows, dataWords, tableOf, wordsNeeded, itemsOf}
 use Rattle.format.specs.Normal.{normal, depth}
-use Rattle.format.specs.Answers.{Reading, unread, faulty, over, laid, readingOf, reading, Writing, unwritten, judged, put, writing}
+use Rattle.format.specs.Answers.{Reading, unread, faulty, over, laid, readingOf, reading, Writing, unwritten, put, writingOf, writing}
 use Rattle.format.proofs.Choices.{ifLt-no, byLt}
 use Rattle.format.proofs.Faults.{fault-inside, few-missing}
 use Rattle.format.proofs.TableLaws.{table-back, table-only}
@@ -105,24 +105,7 @@ same-depth w xs ys i j = ap depth (one-table w xs ys i j)
 pub same-length : (w : List ℕ) (xs ys : Items) → IsTable w xs → IsTable w ys → length (normal xs) ≡ length (normal ys)
 same-length w xs ys i j = ap (λ z. length (normal z)) (one-table w xs ys i j)
 
--- A fact of each answer that can be given for a table, with what makes it due, is a fact of the answer: 12; 13; 14; what follows.
-pub judged-by : (w o : List ℕ) (f : List ℕ → Writing) (P : Writing → Type 0) → (NoTable w → P (unwritten 12 0 o))
-    → ((xs : Items) → IsTable w xs → depthLimit < depth xs → P (unwritten 13 0 o))
-    → ((xs : Items) → IsTable w xs → depth xs ≤ depthLimit → byteLimit < length (normal xs) → P (unwritten 14 0 o))
-    → ((xs : Items) → IsTable w xs → Writable xs (length (normal xs)) → P (f (normal xs)))
-    → P (judged (itemsOf w) o f)
-judged-by w o f P wrong deep long more = go (itemsOf w) refl
-  where
-    go : (i : Option Items) → itemsOf w ≡ i → P (judged i o f)
-    go none e = unfold judged in wrong (no-items w e)
-    go (some xs) e =
-        let t = table-of-items w xs e in
-        unfold judged in
-        byLt P depthLimit (depth xs) (deep xs t)
-        (λ d. byLt P byteLimit (length (normal xs)) (long xs t d)
-        (λ l. more xs t (record { shallow = d; short = l; room = omega arith })))
-
--- the same of writing: 12; 13; 14; 15; 0
+-- A fact of each answer that writing can give, with what makes it due, is a fact of its answer: 12; 13; 14; 15; 0.
 pub write-by : (w o : List ℕ) (P : Writing → Type 0) → (NoTable w → P (unwritten 12 0 o))
     → ((xs : Items) → IsTable w xs → depthLimit < depth xs → P (unwritten 13 0 o))
     → ((xs : Items) → IsTable w xs → depth xs ≤ depthLimit → byteLimit < length (normal xs) → P (unwritten 14 0 o))
@@ -131,11 +114,18 @@ pub write-by : (w o : List ℕ) (P : Writing → Type 0) → (NoTable w → P (u
     → ((xs : Items) → IsTable w xs → Writable xs (length o)
     → P (record { number = 0; length = length (normal xs); output = over (normal xs) o }))
     → P (writing w o)
-unfolding writing put
-write-by w o P wrong deep long room all =
-    judged-by w o (put o) P wrong deep long
-    (λ xs t f. byLt P (length o) (length (normal xs)) (room xs t f)
-    (λ r. all xs t (record { shallow = f .shallow; short = f .short; room = r })))
+unfolding writing
+write-by w o P wrong deep long room all = go (itemsOf w) refl
+  where
+    go : (i : Option Items) → itemsOf w ≡ i → P (writingOf i o)
+    go none e = unfold writingOf in wrong (no-items w e)
+    go (some xs) e =
+        let t = table-of-items w xs e in
+        unfold writingOf put in
+        byLt P depthLimit (depth xs) (deep xs t)
+        (λ d. byLt P byteLimit (length (normal xs)) (long xs t d)
+        (λ l. byLt P (length o) (length (normal xs)) (room xs t (record { shallow = d; short = l; room = omega arith }))
+        (λ r. all xs t (record { shallow = d; short = l; room = r }))))
 
 -- written, with everything determined; or refused with one of the numbers 12 to 15, and the output as lent
 pub data Wrote (w o : List ℕ) : Writing → Type 0 where
@@ -152,8 +142,8 @@ write-cases w o =
 
 pub write-writable : (w o : List ℕ) (xs : Items) → itemsOf w ≡ some xs → Writable xs (length o)
     → writing w o ≡ record { number = 0; length = length (normal xs); output = over (normal xs) o }
-unfolding writing judged put
+unfolding writing writingOf put
 write-writable w o xs e f =
-    ap (λ i. judged i o (put o)) e
+    ap (λ i. writingOf i o) e
     ∙ ifLt-no depthLimit (depth xs) _ _ (f .shallow) ∙ ifLt-no byteLimit (length (normal xs)) _ _ (f .short)
     ∙ ifLt-no (length o) (length (normal xs)) _ _ (f .room)

@@ -1,11 +1,11 @@
--- The three demands, as theorems about the functions that the contracts of the public operations cite: `reading`, `writing`,
--- `normalLength` and `normalising` of the crate format (specs/Answers.antt). The words used are in specs/Words.antt. Assumes nothing.
+-- The three demands, as theorems about the functions that the contracts of the public operations cite: `reading`, `writing`
+-- and `normalising` of the crate format (specs/Answers.antt). The words used are in specs/Words.antt. Assumes nothing.
 use Prim.Native.Nat.{ℕ, _≤_}
 use mathlib.Core.Path.{_≡_, refl, sym, ap, _∙_, subst}
 use mathlib.Core.Logic.{_≢_, _⊎_, inl, inr, _↔_}
 use mathlib.Core.Bool.{true}
 use mathlib.Core.Option.{some}
-use mathlib.Core.List.{List, [], _++_}
+use mathlib.Core.List.{List, _++_}
 use native.Mathlib.Omega.{arith}
 use lib.ListN.{length, drop}
 use lib.Seq.{take-at}
@@ -15,7 +15,7 @@ use Rattle.format.specs.Items.{Items}
 use Rattle.format.specs.Messages.{withoutRepeats}
 use Rattle.format.specs.Tables.{tableOf, wordsNeeded, lawful, itemsOf}
 use Rattle.format.specs.Normal.{normal}
-use Rattle.format.specs.Answers.{Reading, over, reading, Writing, told, writing, normalLength, Normalising, readAnd, thenWritten, normalising}
+use Rattle.format.specs.Answers.{Reading, over, reading, Writing, writing, Normalising, readAnd, thenWritten, normalising}
 use Rattle.format.proofs.Choices.{ifEq-yes, byEq, both-true, le-true}
 use Rattle.format.proofs.ReadProper.{read-proper, read-depth}
 use Rattle.format.proofs.RoundTrip.{round-trip, normal-inj, normal-plain}
@@ -23,7 +23,7 @@ use Rattle.format.proofs.NormalBytes.{normal-bytes}
 use Rattle.format.proofs.Minimal.{minimal}
 use Rattle.format.proofs.TableLaws.{table-back}
 use Rattle.message.specs.Words.{Says, Accepted, NoneDue, IsTable, Writable, Ready, given}
-use Rattle.message.proofs.Cases.{Read, accepted, no-reading, Wrote, written, no-writing, read-cases, read-due, items-of-table, judged-by, write-cases, write-writable}
+use Rattle.message.proofs.Cases.{Read, accepted, no-reading, Wrote, written, no-writing, read-cases, read-due, items-of-table, write-cases, write-writable}
 
 -- ---- Demand 1: "Give it anything: it answers and ends." Every answer is one of the numbers listed, and a refusal leaves what
 -- is lent untouched.
@@ -63,14 +63,6 @@ refused-writing w o = go (writing w o) (write-cases w o)
     go : (r : Writing) → Wrote w o r → r .number ≢ 0 → r .output ≡ o
     go r (written xs e f) n = absurd (n refl)
     go r (no-writing n l a b) z = refl
-
--- "A separate operation tells a table's normal length, refusing with 12, 13, 14 alike": it answers as writing does where 15 is
--- not due.
-pub normal-length-number : (w : List ℕ) → (normalLength w .number ≡ 0) ⊎ ((12 ≤ normalLength w .number) × (normalLength w .number ≤ 14))
-unfolding normalLength
-normal-length-number w =
-    judged-by w [] told (λ (r : Writing). (r .number ≡ 0) ⊎ ((12 ≤ r .number) × (r .number ≤ 14))) (λ n. inr (omega arith, omega arith))
-    (λ xs t d. inr (omega arith, omega arith)) (λ xs t d l. inr (omega arith, omega arith)) (λ xs t f. inl (unfold told in refl))
 
 -- "if writing refuses, the table holds the reading and the output is untouched"
 pub normalised-table : (m t o : List ℕ) → normalising m t o .table ≡ reading m t .table

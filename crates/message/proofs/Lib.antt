@@ -2,6 +2,7 @@ pub mod Cases
 pub mod Demands
 pub mod ReadExactly
 pub mod WriteExactly
+pub mod OneCall
 pub mod NormaliseExactly
 pub mod Waiting
 pub mod ReadCases

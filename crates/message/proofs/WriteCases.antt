@@ -1,11 +1,10 @@
 -- What writing and normalising answer, from what their callees do. Assumes nothing.
 use Prim.Native.Nat.{ℕ}
-use mathlib.Core.Path.{_≡_, refl, sym, ap, _∙_}
+use mathlib.Core.Path.{_≡_, sym, ap, _∙_}
 use mathlib.Core.Logic.{_≢_}
-use mathlib.Core.List.{List, []}
+use mathlib.Core.List.{List}
 use Rattle.format.specs.Answers as A
 use Rattle.format.proofs.Choices.{ifEq-yes, ifEq-no}
-use Rattle.message.proofs.Cases.{judged-by}
 
 -- an answer is told by its parts
 pub written-parts : (a : A.Writing) (n l : ℕ) (o : List ℕ) → n ≡ a .number → l ≡ a .length → o ≡ a .output → record { number = n; length = l; output = o } ≡ a
@@ -14,12 +13,6 @@ written-parts a n l o en el eo =
   where
     made : ℕ → ℕ → List ℕ → A.Writing
     made n l o = record { number = n; length = l; output = o }
-
--- the operation that tells a normal length is lent no output
-pub no-output : (w : List ℕ) → [] ≡ A.normalLength w .output
-unfolding A.normalLength
-no-output w =
-    judged-by w [] A.told (λ (a : A.Writing). [] ≡ a .output) (λ n. refl) (λ xs t d. refl) (λ xs t d l. refl) (λ xs t f. unfold A.told in refl)
 
 -- a refused reading ends normalising
 pub normalise-refused : (m t o : List ℕ) (r : A.Reading) → r ≡ A.reading m t → r .number ≢ 0 → A.onlyRead r o ≡ A.normalising m t o

@@ -1,10 +1,10 @@
--- Exactly when writing and the normal length give each number, and with which length: theorems about the functions that the
--- contracts of the public operations cite, as in Demands.antt. The words used are in specs/Words.antt. Assumes nothing.
+-- Exactly when writing gives each number, and with which length: theorems about the function that the contract of the public
+-- operation cites, as in Demands.antt. The words used are in specs/Words.antt. Assumes nothing.
 use Prim.Native.Nat.{ℕ, _≤_, _<_}
 use mathlib.Core.Path.{_≡_, refl, sym, ap, _∙_}
-use mathlib.Core.Logic.{_≢_, _⊎_, inl, inr, ⊎-elim, _↔_}
+use mathlib.Core.Logic.{_≢_, _↔_}
 use mathlib.Core.Option.{Option, none, some}
-use mathlib.Core.List.{List, [], _++_}
+use mathlib.Core.List.{List, _++_}
 use native.Mathlib.Omega.{arith}
 use lib.ListN.{length, take, drop, getD, length-take}
 use lib.Seq.{getD-take}
@@ -12,83 +12,38 @@ use Rattle.format.specs.Refusals.{byteLimit, depthLimit}
 use Rattle.format.specs.Items.{Items}
 use Rattle.format.specs.Tables.{rows, dataWords, tableOf, wordsNeeded, itemsOf}
 use Rattle.format.specs.Normal.{normal, depth}
-use Rattle.format.specs.Answers.{over, reading, Writing, judged, put, writing, told, normalLength}
-use Rattle.format.proofs.Choices.{byLt}
+use Rattle.format.specs.Answers.{over, reading, Writing, writingOf, writing}
 use Rattle.format.proofs.TableLaws.{table-length, lawful-proper, lawful-rows, lawful-words}
 use Rattle.format.proofs.RoundTrip.{round-trip}
 use Rattle.message.specs.Words.{IsTable, NoTable, Writable, headed}
-use Rattle.message.proofs.Cases.{both-hold, both-fail, read-due, items-of-table, table-of-items, same-depth, same-length, judged-by, write-by}
-
--- What is judged alike for both: 12, 13 and 14 come first, whatever follows them, as long as that has another number.
-module _ (w o : List ℕ) (f : List ℕ → Writing) (other : (l : List ℕ) → (f l .number ≡ 0) ⊎ (f l .number ≡ 15)) where
-  not-these : (l : List ℕ) (n : ℕ) → 12 ≤ n → n ≤ 14 → f l .number ≢ n
-  not-these l n a b e = ⊎-elim (λ z. omega arith) (λ z. omega arith) (other l)
-
-  judged-12 : (judged (itemsOf w) o f .number ≡ 12) ↔ NoTable w
-  judged-12 =
-      judged-by w o f (λ (r : Writing). (r .number ≡ 12) ↔ NoTable w) (λ n. both-hold refl n)
-      (λ xs i d. both-fail (λ z. omega arith) (λ n. n xs i)) (λ xs i d l. both-fail (λ z. omega arith) (λ n. n xs i))
-      (λ xs i p. both-fail (not-these (normal xs) 12 (omega arith) (omega arith)) (λ n. n xs i))
-
-  judged-13 : (judged (itemsOf w) o f .number ≡ 13) ↔ ((xs : Items) × IsTable w xs × (depthLimit < depth xs))
-  judged-13 =
-      judged-by w o f (λ (r : Writing). (r .number ≡ 13) ↔ ((xs : Items) × IsTable w xs × (depthLimit < depth xs)))
-      (λ n. both-fail (λ z. omega arith) (λ x. n (x .0) (x .1))) (λ xs i d. both-hold refl (xs, i, d))
-      (λ xs i d l. both-fail (λ z. omega arith) (λ x. omega (arith, same-depth w xs (x .0) i (x .1), x .2)))
-      (λ xs i p. both-fail (not-these (normal xs) 13 (omega arith) (omega arith)) (λ x. omega (arith, p .shallow, same-depth w xs (x .0) i (x .1), x .2)))
-
-  judged-14 : (judged (itemsOf w) o f .number ≡ 14) ↔ ((xs : Items) × IsTable w xs × (depth xs ≤ depthLimit) × (byteLimit < length (normal xs)))
-  judged-14 =
-      judged-by w o f (λ (r : Writing). (r .number ≡ 14) ↔ ((xs : Items) × IsTable w xs × (depth xs ≤ depthLimit) × (byteLimit < length (normal xs))))
-      (λ n. both-fail (λ z. omega arith) (λ x. n (x .0) (x .1)))
-      (λ xs i d. both-fail (λ z. omega arith) (λ x. omega (arith, same-depth w xs (x .0) i (x .1), x .2)))
-      (λ xs i d l. both-hold refl (xs, i, d, l))
-      (λ xs i p. both-fail (not-these (normal xs) 14 (omega arith) (omega arith)) (λ x. omega (arith, p .short, same-length w xs (x .0) i (x .1), x .3)))
-
-  judged-0 : 12 ≤ judged (itemsOf w) o f .number → judged (itemsOf w) o f .number ≤ 14 → judged (itemsOf w) o f .length ≡ 0
-  judged-0 =
-      judged-by w o f (λ (r : Writing). 12 ≤ r .number → r .number ≤ 14 → r .length ≡ 0) (λ n a b. refl) (λ xs i d a b. refl)
-      (λ xs i d l a b. refl) (λ xs i p a b. absurd (not-these (normal xs) (f (normal xs) .number) a b refl))
-
-put-other : (o l : List ℕ) → (put o l .number ≡ 0) ⊎ (put o l .number ≡ 15)
-unfolding put
-put-other o l = byLt (λ (r : Writing). (r .number ≡ 0) ⊎ (r .number ≡ 15)) (length o) (length l) (λ h. inr refl) (λ h. inl refl)
-
-told-other : (l : List ℕ) → (told l .number ≡ 0) ⊎ (told l .number ≡ 15)
-unfolding told
-told-other l = inl refl
+use Rattle.message.proofs.Cases.{both-hold, both-fail, read-due, items-of-table, table-of-items, same-depth, same-length, write-by}
 
 -- 12: "table to write not well formed"
 pub writing-12 : (w o : List ℕ) → (writing w o .number ≡ 12) ↔ NoTable w
-unfolding writing
-writing-12 w o = judged-12 w o (put o) (put-other o)
-
--- "refusing with 12, 13, 14 alike"
-pub normal-length-12 : (w : List ℕ) → (normalLength w .number ≡ 12) ↔ NoTable w
-unfolding normalLength
-normal-length-12 w = judged-12 w [] told told-other
+writing-12 w o =
+    write-by w o (λ (r : Writing). (r .number ≡ 12) ↔ NoTable w) (λ n. both-hold refl n)
+    (λ xs i d. both-fail (λ z. omega arith) (λ n. n xs i)) (λ xs i d l. both-fail (λ z. omega arith) (λ n. n xs i))
+    (λ xs i p r. both-fail (λ z. omega arith) (λ n. n xs i)) (λ xs i p. both-fail (λ z. omega arith) (λ n. n xs i))
 
 -- 13: "more than sixteen of its STRUCs and EDTs one inside another"
 pub writing-13 : (w o : List ℕ) → (writing w o .number ≡ 13) ↔ ((xs : Items) × IsTable w xs × (depthLimit < depth xs))
-unfolding writing
-writing-13 w o = judged-13 w o (put o) (put-other o)
-
--- "refusing with 12, 13, 14 alike"
-pub normal-length-13 : (w : List ℕ) → (normalLength w .number ≡ 13) ↔ ((xs : Items) × IsTable w xs × (depthLimit < depth xs))
-unfolding normalLength
-normal-length-13 w = judged-13 w [] told told-other
+writing-13 w o =
+    write-by w o (λ (r : Writing). (r .number ≡ 13) ↔ ((xs : Items) × IsTable w xs × (depthLimit < depth xs)))
+    (λ n. both-fail (λ z. omega arith) (λ x. n (x .0) (x .1))) (λ xs i d. both-hold refl (xs, i, d))
+    (λ xs i d l. both-fail (λ z. omega arith) (λ x. omega (arith, same-depth w xs (x .0) i (x .1), x .2)))
+    (λ xs i p r. both-fail (λ z. omega arith) (λ x. omega (arith, p .shallow, same-depth w xs (x .0) i (x .1), x .2)))
+    (λ xs i p. both-fail (λ z. omega arith) (λ x. omega (arith, p .shallow, same-depth w xs (x .0) i (x .1), x .2)))
 
 -- 14: "normal form over 65,536 bytes"
 pub writing-14 : (w o : List ℕ)
     → (writing w o .number ≡ 14) ↔ ((xs : Items) × IsTable w xs × (depth xs ≤ depthLimit) × (byteLimit < length (normal xs)))
-unfolding writing
-writing-14 w o = judged-14 w o (put o) (put-other o)
-
--- "refusing with 12, 13, 14 alike"
-pub normal-length-14 : (w : List ℕ)
-    → (normalLength w .number ≡ 14) ↔ ((xs : Items) × IsTable w xs × (depth xs ≤ depthLimit) × (byteLimit < length (normal xs)))
-unfolding normalLength
-normal-length-14 w = judged-14 w [] told told-other
+writing-14 w o =
+    write-by w o (λ (r : Writing). (r .number ≡ 14) ↔ ((xs : Items) × IsTable w xs × (depth xs ≤ depthLimit) × (byteLimit < length (normal xs))))
+    (λ n. both-fail (λ z. omega arith) (λ x. n (x .0) (x .1)))
+    (λ xs i d. both-fail (λ z. omega arith) (λ x. omega (arith, same-depth w xs (x .0) i (x .1), x .2)))
+    (λ xs i d l. both-hold refl (xs, i, d, l))
+    (λ xs i p r. both-fail (λ z. omega arith) (λ x. omega (arith, p .short, same-length w xs (x .0) i (x .1), x .3)))
+    (λ xs i p. both-fail (λ z. omega arith) (λ x. omega (arith, p .short, same-length w xs (x .0) i (x .1), x .3)))
 
 -- 15: "lent output too short": it is shorter than the normal form, and one as long would be written
 pub writing-15 : (w o : List ℕ)
@@ -101,16 +56,6 @@ writing-15 w o =
     (λ xs i p r. both-hold refl (xs, i, p, r))
     (λ xs i p. both-fail (λ z. omega arith) (λ x. omega (arith, p .room, same-length w xs (x .0) i (x .1), x .3)))
 
--- "A separate operation tells a table's normal length": exactly when none of 12, 13 and 14 is due
-pub normal-length-0 : (w : List ℕ) → (normalLength w .number ≡ 0) ↔ ((xs : Items) × IsTable w xs × Writable xs (length (normal xs)))
-unfolding normalLength told
-normal-length-0 w =
-    judged-by w [] told (λ (r : Writing). (r .number ≡ 0) ↔ ((xs : Items) × IsTable w xs × Writable xs (length (normal xs))))
-    (λ n. both-fail (λ z. omega arith) (λ x. n (x .0) (x .1)))
-    (λ xs i d. both-fail (λ z. omega arith) (λ x. omega (arith, same-depth w xs (x .0) i (x .1), x .2 .shallow)))
-    (λ xs i d l. both-fail (λ z. omega arith) (λ x. omega (arith, same-length w xs (x .0) i (x .1), x .2 .short)))
-    (λ xs i p. both-hold refl (xs, i, p))
-
 -- an output of 65,536 bytes is always enough
 pub output-enough : (w o : List ℕ) → byteLimit ≤ length o → writing w o .number ≢ 15
 output-enough w o h e = let x = writing-15 w o .0 e in omega (arith, x .2 .short, x .3)
@@ -121,22 +66,11 @@ length-needed w o xs i =
     write-by w o (λ (r : Writing). r .number ≡ 15 → r .length ≡ length (normal xs)) (λ n z. absurd (n xs i)) (λ ys j d z. absurd (omega arith))
     (λ ys j d l z. absurd (omega arith)) (λ ys j p r z. same-length w ys xs j i) (λ ys j p z. absurd (omega arith))
 
--- the normal length told is the normal form's
-pub length-told : (w : List ℕ) (xs : Items) → IsTable w xs → normalLength w .number ≡ 0 → normalLength w .length ≡ length (normal xs)
-unfolding normalLength told
-length-told w xs i =
-    judged-by w [] told (λ (r : Writing). r .number ≡ 0 → r .length ≡ length (normal xs)) (λ n z. absurd (n xs i)) (λ ys j d z. absurd (omega arith))
-    (λ ys j d l z. absurd (omega arith)) (λ ys j p z. same-length w ys xs j i)
-
 -- "otherwise 0"
 pub no-length : (w o : List ℕ) → 12 ≤ writing w o .number → writing w o .number ≤ 14 → writing w o .length ≡ 0
-unfolding writing
-no-length w o = judged-0 w o (put o) (put-other o)
-
--- and so for the normal length
-pub no-normal-length : (w : List ℕ) → 12 ≤ normalLength w .number → normalLength w .number ≤ 14 → normalLength w .length ≡ 0
-unfolding normalLength
-no-normal-length w = judged-0 w [] told told-other
+no-length w o =
+    write-by w o (λ (r : Writing). 12 ≤ r .number → r .number ≤ 14 → r .length ≡ 0) (λ n a b. refl) (λ xs i d a b. refl) (λ xs i d l a b. refl)
+    (λ xs i p r a b. absurd (omega arith)) (λ xs i p a b. absurd (omega arith))
 
 -- ---- "Words past the data belong to the caller and are neither read nor changed."
 
@@ -174,9 +108,9 @@ same-items w v e =
     (λ xs i. items-of-table w xs (front-table v w xs f (table-of-items v xs i)))
 
 -- any words, a table or not, that agree as far as the header says are answered alike, whatever stands behind
-pub past-unread : (w v o : List ℕ) → take (headed w) w ≡ take (headed w) v → (writing w o ≡ writing v o) × (normalLength w ≡ normalLength v)
-unfolding writing normalLength
-past-unread w v o e = (ap (λ i. judged i o (put o)) (same-items w v e), ap (λ i. judged i [] told) (same-items w v e))
+pub past-unread : (w v o : List ℕ) → take (headed w) w ≡ take (headed w) v → writing w o ≡ writing v o
+unfolding writing
+past-unread w v o e = ap (λ i. writingOf i o) (same-items w v e)
 
 -- fewer words than the header says are no table
 pub short-no-table : (w : List ℕ) → length w < headed w → NoTable w

@@ -1,17 +1,17 @@
--- The words of the demands, for the theorems in proofs/Demands.antt and of when each number is given (proofs/ReadExactly.antt,
--- WriteExactly.antt, NormaliseExactly.antt).
+-- The words of the demands, for the theorems in proofs/Demands.antt, of when each number is given (proofs/ReadExactly.antt,
+-- WriteExactly.antt, NormaliseExactly.antt) and of the length alone (proofs/OneCall.antt).
 use Prim.Native.Nat.{ℕ, _+_, _*_, _≤_, _<_}
 use mathlib.Core.Path.{_≡_}
-use mathlib.Core.Logic.{_⊎_}
+use mathlib.Core.Logic.{_≢_, _⊎_}
 use mathlib.Core.Bool.{true}
-use mathlib.Core.List.{List}
+use mathlib.Core.List.{List, []}
 use lib.ListN.{length, take, getD}
 use Rattle.format.specs.Refusals.{byteLimit, rowLimit, wordLimit, depthLimit}
-use Rattle.format.specs.Items.{Items}
+use Rattle.format.specs.Items.{Items, end}
 use Rattle.format.specs.Messages.{says, outcome}
 use Rattle.format.specs.Tables.{rows, dataWords, tableOf, wordsNeeded, lawful}
 use Rattle.format.specs.Normal.{normal, depth}
-use Rattle.format.specs.Answers.{Normalising, reading}
+use Rattle.format.specs.Answers.{Writing, unwritten, Normalising, reading, writing}
 
 -- "A message says a list of items, found from its bytes alone."
 abbrev pub Says : List ℕ → Items → Type 0
@@ -63,3 +63,12 @@ pub record Ready (m : List ℕ) (xs : Items) (t o : List ℕ) : Type 0 where
 -- "what it gives is its output up to the length it returns"
 abbrev pub given : Normalising → List ℕ
 given a = take (a .length) (a .output)
+
+-- "A caller that wants only the length lends an empty output". What it receives for any words w: 12, 13 or 14, as with any other
+-- output; "15 with the length needed", and room of that length is filled; "or length 0 with result 0 for a table of no items".
+pub data Asked (w : List ℕ) : Writing → Type 0 where
+  alike : (n : ℕ) → 12 ≤ n → n ≤ 14 → ((o : List ℕ) → writing w o ≡ unwritten n 0 o) → Asked w (unwritten n 0 [])
+  needed : (xs : Items) → IsTable w xs → xs ≢ end
+      → ((o : List ℕ) → length o ≡ length (normal xs) → writing w o ≡ record { number = 0; length = length o; output = normal xs })
+      → Asked w (unwritten 15 (length (normal xs)) [])
+  nothing : IsTable w end → Asked w (unwritten 0 0 [])

@@ -1,8 +1,7 @@
 // The public operations on RFC 713 messages. Each contract is one equation with the meaning in the crate format
 // (specs/Answers.antt): the answer, and every lent word and byte afterwards.
 ghost use mathlib.Core.Path.{_≡_};
-ghost use mathlib.Core.List.{[]};
-ghost use Rattle.format.specs.Answers.{reading, writing, normalLength, normalising};
+ghost use Rattle.format.specs.Answers.{reading, writing, normalising};
 ghost use Rattle.message.specs.Told.{readTold, readAnswer, faultAnswer, writeTold, normaliseTold};
 use fill::fill;
 use format::fault::Fault;
@@ -91,17 +90,6 @@ pub fn write(table: &[u64], output: &mut [u8]) -> Writing
     ensures { λ r. ⌜ writeTold r (now (output .exit)) ≡ writing (now (table .entry)) (now (output .entry)) ⌝ }
 {
     let w = writer::write(table, output);
-    Writing {
-        number: w.number,
-        length: w.length,
-    }
-}
-
-// The length of the normal form of a table's items.
-pub fn normal_length(table: &[u64]) -> Writing
-    ensures { λ r. ⌜ writeTold r [] ≡ normalLength (now (table .entry)) ⌝ }
-{
-    let w = writer::normal_length(table);
     Writing {
         number: w.number,
         length: w.length,

@@ -1,7 +1,6 @@
 // The public operations for C, as declared in include/msdtp.h. Each is the operation of the crate message, with its contract.
 ghost use mathlib.Core.Path.{_≡_};
-ghost use mathlib.Core.List.{[]};
-ghost use Rattle.format.specs.Answers.{reading, writing, normalLength, normalising};
+ghost use Rattle.format.specs.Answers.{reading, writing, normalising};
 ghost use Rattle.message.specs.Told.{readTold, writeTold, normaliseTold};
 use message::Normalising;
 use message::Reading;
@@ -19,13 +18,6 @@ pub extern "C" fn msdtp_write(table: &[u64], output: &mut [u8]) -> Writing
     ensures { λ r. ⌜ writeTold r (now (output .exit)) ≡ writing (now (table .entry)) (now (output .entry)) ⌝ }
 {
     message::write(table, output)
-}
-
-#[no_mangle]
-pub extern "C" fn msdtp_normal_length(table: &[u64]) -> Writing
-    ensures { λ r. ⌜ writeTold r [] ≡ normalLength (now (table .entry)) ⌝ }
-{
-    message::normal_length(table)
 }
 
 #[no_mangle]

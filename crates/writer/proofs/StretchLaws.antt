@@ -7,13 +7,14 @@ use lib.ListN.{length, take, drop, set, length-set}
 use Rattle.format.specs.Normal.{normalLeaf, normal, depth}
 use Rattle.format.specs.Answers.{over}
 use Rattle.format.proofs.Choices.{split, ifEq-yes}
+use Rattle.format.proofs.ItemLaws.{rows-least}
 use Rattle.writer.specs.Rows.{kindAt, bAt, itemsAt, Run, leafAt, LeafAt}
 use Rattle.writer.specs.Forms.{codesFrom, plainByte, Alike}
 use Rattle.writer.proofs.NumberLaws.{int-small}
 use Rattle.writer.proofs.LeafForms.{int-at, plain-form, plain-code}
 use Rattle.writer.proofs.RunLaws.{leaf-step, leaf-normal, leaf-adds}
 use Rattle.writer.proofs.Over.{over-snoc}
-use Rattle.writer.proofs.WriteLaws.{Going, going-on, rows-least}
+use Rattle.writer.proofs.WriteLaws.{Going, going-on}
 
 -- ---- the bytes of a stretch
 pub codes-length : (k p low : ℕ) (w : List ℕ) → length (codesFrom w low p k) ≡ k

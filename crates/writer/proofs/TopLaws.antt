@@ -1,6 +1,6 @@
--- From the verdict on a table to the answers of the public operations. Assumes nothing.
+-- From the verdict on a table to writing's answer. Assumes nothing.
 use mathlib.Core.Path.{_≡_, refl, sym, _∙_, ap, subst}
-use mathlib.Core.List.{List, []}
+use mathlib.Core.List.{List, [], _∷_}
 use mathlib.Core.Bool.{Bool, true, false}
 use mathlib.Core.Option.{Option, none, some}
 use Prim.Native.Nat.{ℕ, _<_, _≤_}
@@ -11,7 +11,7 @@ use Rattle.writer.specs.declared.Verdict.the-variants.{Refused, Normal}
 use Rattle.format.specs.Items.{Items}
 use Rattle.format.specs.Tables.{count, dataWords, itemsOf}
 use Rattle.format.specs.Normal.{normal, depth}
-use Rattle.format.specs.Answers.{Writing, over, unwritten, judged, put, writing, told, normalLength}
+use Rattle.format.specs.Answers.{over, unwritten, put, writingOf, writing}
 use Rattle.format.proofs.Choices.{ifLt-yes, ifLt-no, byLt}
 use Rattle.writer.specs.Rows.{Stands, itemsAt, Run, Header, HeaderJudged, isSome}
 use Rattle.writer.specs.Surveys.{Placed, NoItems, TooDeep, Passed}
@@ -130,14 +130,14 @@ module _ (w : List ℕ) (R D : ℕ) (h : Header w R D) where
           let q : n ≡ length (normal found) = omega (arith, a .size) in
           sym (verdict-some found all-found ∙ ifLt-no 16 (depth found) _ _ (omega (arith, a .shallow)) ∙ ifLt-no 65536 (length (normal found)) _ _ (omega arith) ∙ ap Normal (sym q))
 
--- ---- from the verdict to the answers
-refused-of : (n : ℕ) (o : Option Items) (t : List ℕ) (f : List ℕ → Writing) → Refused n ≡ verdictOf o → judged o t f ≡ unwritten n 0 t
-unfolding verdictOf judged
-refused-of n none t f = λ e. let q : n ≡ 12 = cc in rw q refl
-refused-of n (some xs) t f =
-    byLt (λ v. Refused n ≡ v → judged (some xs) t f ≡ unwritten n 0 t) 16 (depth xs)
+-- ---- from the verdict to the answer
+refused-of : (n : ℕ) (o : Option Items) (t : List ℕ) → Refused n ≡ verdictOf o → writingOf o t ≡ unwritten n 0 t
+unfolding verdictOf writingOf
+refused-of n none t = λ e. let q : n ≡ 12 = cc in rw q refl
+refused-of n (some xs) t =
+    byLt (λ v. Refused n ≡ v → writingOf (some xs) t ≡ unwritten n 0 t) 16 (depth xs)
     (λ l e. let q : n ≡ 13 = cc in rw q (ifLt-yes 16 (depth xs) _ _ l))
-    (λ g. byLt (λ v. Refused n ≡ v → judged (some xs) t f ≡ unwritten n 0 t) 65536 (length (normal xs))
+    (λ g. byLt (λ v. Refused n ≡ v → writingOf (some xs) t ≡ unwritten n 0 t) 65536 (length (normal xs))
     (λ l e. let q : n ≡ 14 = cc in rw q (ifLt-no 16 (depth xs) _ _ g ∙ ifLt-yes 65536 (length (normal xs)) _ _ l))
     (λ k e. let z : _≡_ {A = ℕ} 0 1 = cc in absurd (omega arith)))
 
@@ -168,36 +168,37 @@ sound-of w n e = go (itemsOf w) refl e
         let k = normal-of n (allOf w) (e ∙ ap verdictOf (sym q ∙ r .is)) in
         record { ready = r; shallow = k .0; size = k .2; small = omega arith }
 
-normal-judged : (w : List ℕ) (n : ℕ) (t : List ℕ) (f : List ℕ → Writing) → Sound w n → judged (itemsOf w) t f ≡ f (normal (allOf w))
-unfolding judged
-normal-judged w n t f s =
+normal-put : (w : List ℕ) (n : ℕ) (t : List ℕ) → Sound w n → writing w t ≡ put t (normal (allOf w))
+unfolding writing writingOf
+normal-put w n t s =
     let z = s .size in
     let l = s .small in
-    ap (λ o. judged o t f) (s .ready .is) ∙ ifLt-no 16 (depth (allOf w)) _ _ (s .shallow) ∙ ifLt-no 65536 (length (normal (allOf w))) _ _ (omega arith)
-
-pub length-refused : (w : List ℕ) (n : ℕ) → Refused n ≡ verdict w → normalLength w ≡ unwritten n 0 []
-unfolding normalLength verdict
-length-refused w n e = refused-of n (itemsOf w) [] told e
-
-pub length-told : (w : List ℕ) (n : ℕ) → Normal n ≡ verdict w → normalLength w ≡ unwritten 0 n []
-unfolding normalLength told
-length-told w n e = let s = sound-of w n e in normal-judged w n [] told s ∙ rw (s .size) refl
+    ap (λ o. writingOf o t) (s .ready .is) ∙ ifLt-no 16 (depth (allOf w)) _ _ (s .shallow) ∙ ifLt-no 65536 (length (normal (allOf w))) _ _ (omega arith)
 
 pub write-refused : (w t : List ℕ) (n : ℕ) → Refused n ≡ verdict w → writing w t ≡ unwritten n 0 t
 unfolding writing verdict
-write-refused w t n e = refused-of n (itemsOf w) t (put t) e
+write-refused w t n e = refused-of n (itemsOf w) t e
 
 pub write-short : (w t : List ℕ) (n : ℕ) → Normal n ≡ verdict w → length t < n → writing w t ≡ unwritten 15 n t
-unfolding writing put
+unfolding put
 write-short w t n e l =
     let s = sound-of w n e in
-    normal-judged w n t (put t) s ∙ rw (← s .size) (ifLt-yes (length t) n _ _ l)
+    normal-put w n t s ∙ rw (← s .size) (ifLt-yes (length t) n _ _ l)
 
 pub write-whole : (w t : List ℕ) (n : ℕ) → Normal n ≡ verdict w → n ≤ length t → writing w t ≡ unwritten 0 n (over (normal (allOf w)) t)
-unfolding writing put
+unfolding put
 write-whole w t n e l =
     let s = sound-of w n e in
-    normal-judged w n t (put t) s ∙ rw (← s .size) (ifLt-no (length t) n _ _ l)
+    normal-put w n t s ∙ rw (← s .size) (ifLt-no (length t) n _ _ l)
+
+pub write-none : (w t : List ℕ) (n : ℕ) → Normal n ≡ verdict w → n ≤ length t → n ≡ 0 → writing w t ≡ unwritten 0 n t
+unfolding over
+write-none w t n e l z =
+    write-whole w t n e l ∙ ap (λ l. unwritten 0 n (over l t)) (length-none (normal (allOf w)) (sym (sound-of w n e .size) ∙ z))
+  where
+    length-none : (l : List ℕ) → length l ≡ 0 → l ≡ []
+    length-none [] h = refl
+    length-none (x ∷ l) h = absurd (omega arith)
 
 pub whole-fits : (w : List ℕ) (n k : ℕ) → Normal n ≡ verdict w → n ≤ k → Fits w 0 (getD w 0 0) 16 k
 whole-fits w n k e l =

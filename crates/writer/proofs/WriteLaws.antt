@@ -1,22 +1,21 @@
 -- The normal form of a run, item by item, as it is written over the front of a list. Assumes nothing.
 use mathlib.Core.Path.{_≡_, refl, sym, _∙_, ap}
-use mathlib.Core.List.{List, [], _∷_, _++_}
+use mathlib.Core.List.{List, _∷_, _++_}
 use mathlib.Core.Bool.{Bool, true, false}
 use Prim.Native.Nat.{ℕ, _+_, _-_, _<_, _≤_}
 use native.Mathlib.Omega.{arith}
 use lib.ListN.{length, take, drop, length-append}
 use Rattle.format.specs.Choice.{pick, ifEq}
-use Rattle.format.specs.Items.{Leaf, int, bits, char, bool, empty, xtra, Group, struc, edt, Items, end, leaf, group, isString}
+use Rattle.format.specs.Items.{Group, struc, edt, Items, isString}
 use Rattle.format.specs.Tables.{rows, rowKind}
-use Rattle.format.specs.Bits.{num, packed, bytesFor}
-use lib.IntN.{pos, negsuc}
-use Rattle.format.specs.Normal.{normalSize, withSize, linteger, normalInt, sbitstr, normalBits, normalLeaf, groupByte, normal, depth}
+use Rattle.format.specs.Normal.{normalSize, withSize, normalLeaf, groupByte, normal, depth}
 use Rattle.format.specs.Answers.{over}
-use Rattle.format.proofs.Choices.{split, split-eq, byLt, ifEq-yes, ifEq-no}
+use Rattle.format.proofs.Choices.{split, split-eq, ifEq-yes, ifEq-no}
 use Rattle.format.proofs.Digits.{width-mono}
+use Rattle.format.proofs.ItemLaws.{rows-least, rows-none}
 use Rattle.writer.specs.Rows.{kindAt, bAt, itemsAt, Run, leafAt}
 use Rattle.writer.specs.Measures.{Fits, headByte}
-use Rattle.writer.proofs.NumberLaws.{size-length-0, size-length-1, size-length-long}
+use Rattle.writer.proofs.NumberLaws.{size-length-1, size-length-long}
 use Rattle.writer.proofs.RunLaws.{LeafStep, GroupStep, run-end, leaf-normal, leaf-adds, group-adds}
 use Rattle.writer.proofs.Over.{over-next, over-done, back-length, lent}
 
@@ -50,37 +49,6 @@ group-normal w p e s =
     ap normal (s .is) ∙ ap (λ z. z ∷ (withSize (normal c) ++ normal (itemsAt w (p + 1 + bAt w p) e))) (head-is (s .kind) c ∙ ap (λ k. headByte k c) (sym (s .row)))
 
 -- ---- how few bytes a size can take
--- every row has a byte at least
-size-pos : (n : ℕ) → 0 < length (normalSize n)
-size-pos n =
-    split n 129
-    (λ l. split 0 n (λ h. omega (arith, size-length-1 n (λ z. omega arith) (omega arith))) (λ z. omega (arith, size-length-0 n (omega arith))))
-    (λ g. omega (arith, size-length-long n (omega arith)))
-
-leaf-pos : (l : Leaf) → 0 < length (normalLeaf l)
-unfolding normalLeaf normalInt linteger normalBits sbitstr
-leaf-pos (int (pos n)) = byLt (λ l. 0 < length l) n 64 {x = (0x80 + n) ∷ []} {y = linteger (pos n)} (λ h. omega arith) (λ h. omega arith)
-leaf-pos (int (negsuc n)) = omega arith
-leaf-pos (bits bs) = byLt (λ l. 0 < length l) (length bs) 64 {x = sbitstr (num (true ∷ bs))} {y = 0xc1 ∷ withSize (normalInt (pos (length bs)) ++ packed 8 (bytesFor (length bs)) bs)} (λ h. omega arith) (λ h. omega arith)
-leaf-pos (char c) = omega arith
-leaf-pos (bool b) = omega arith
-leaf-pos empty = omega arith
-leaf-pos (xtra n) = omega arith
-
-pub rows-least : (xs : Items) → rows xs ≤ length (normal xs)
-unfolding normal rows withSize
-rows-least end = omega arith
-rows-least (leaf l xs) = omega (arith, rows-least xs, leaf-pos l, length-append (normalLeaf l) (normal xs))
-rows-least (group g c xs) =
-    omega (arith, rows-least c, rows-least xs, length-append (normalSize (length (normal c)) ++ normal c) (normal xs), length-append (normalSize (length (normal c))) (normal c))
-
--- no rows, no bytes
-rows-none : (xs : Items) → rows xs ≡ 0 → length (normal xs) ≡ 0
-unfolding normal rows
-rows-none end e = refl
-rows-none (leaf l xs) e = absurd (omega arith)
-rows-none (group g c xs) e = absurd (omega arith)
-
 size-mono : (a b : ℕ) → 0 < a → a ≤ b → length (normalSize a) ≤ length (normalSize b)
 size-mono a b p h =
     split b 129 (λ l. omega (arith, size-length-1 a (λ z. omega arith) (omega arith), size-length-1 b (λ z. omega arith) (omega arith)))

@@ -6,7 +6,7 @@ mod put;
 mod survey;
 
 ghost use mathlib.Core.Path.{_≡_};
-ghost use Rattle.format.specs.Answers.{normalLength, writing};
+ghost use Rattle.format.specs.Answers.{writing};
 ghost use Rattle.writer.specs.Rows.{Header};
 ghost use Rattle.writer.specs.Surveys.{TooDeep};
 ghost use Rattle.writer.specs.Verdicts.{verdict};
@@ -67,18 +67,6 @@ fn judge_table(table: &[u64]) -> Verdict
     }
 }
 
-// The length of the normal form of a table's items.
-pub fn normal_length(table: &[u64]) -> Written
-    ensures { λ r. ⌜ r .number ≡ normalLength (now (table .entry)) .number ⌝ }
-    ensures { λ r. ⌜ r .length ≡ normalLength (now (table .entry)) .length ⌝ }
-{
-    let found = judge_table(table);
-    match found {
-        Verdict::Refused(number) => Written { number, length: 0 },
-        Verdict::Normal(length) => Written { number: 0, length },
-    }
-}
-
 // The normal form of a table's items, over the front of the output. Nothing is written unless all of it fits, and nothing
 // past it.
 pub fn write(table: &[u64], output: &mut [u8]) -> Written
@@ -92,6 +80,10 @@ pub fn write(table: &[u64], output: &mut [u8]) -> Written
         Verdict::Normal(length) => {
             if output.len() < length {
                 return Written { number: 15, length };
+            }
+            // Of no items nothing is written, and whoever asks for their length is answered at once.
+            if length == 0 {
+                return Written { number: 0, length };
             }
             let rows = table[0] as usize;
             write_run(table, 0, rows, 16, output);

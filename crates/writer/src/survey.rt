@@ -12,12 +12,12 @@ use crate::leaves::bits_length;
 use crate::numbers::int_length;
 use crate::numbers::size_length;
 
-// Rows that are not those of items; items in which more containers stand inside one another than were allowed; or the bytes
-// of the normal form, the number of items, and the data words up to the end.
+// The bytes of the normal form, the number of items, and the data words up to the end; or rows that are not those of items; or
+// items in which more containers stand inside one another than were allowed.
 pub enum Surveyed {
+    Whole(usize, u64, usize),
     Wrong,
     Deep,
-    Whole(usize, u64, usize),
 }
 
 // A row that is not that of an item; or the bytes of some items without elements, the row behind them, and the data words up to it.

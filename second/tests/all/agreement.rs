@@ -108,17 +108,19 @@ pub fn of_table(words: &[u64], used: usize) {
         Ok(normal) => (0, normal.len()),
         Err(number) => (*number, 0),
     };
-    let mut expected = Writing {
-        number,
-        length: length as u64,
-    };
-    assert_eq!(second::normal_length(words), expected, "{words:?}");
-    let (writing, output) = lent::write(words, length + 9);
-    assert_eq!(writing, expected, "{words:?}");
-    assert!(output == normal.unwrap_or_default(), "{words:?}");
-    if length > 0 {
-        expected.number = 15;
-        assert_eq!(lent::write(words, length - 1).0, expected, "{words:?}");
+    let normal = normal.unwrap_or_default();
+    let mut rooms = vec![0, length.saturating_sub(1), length, length + 9];
+    rooms.dedup();
+    for room in rooms {
+        let short = room < length;
+        let due = Writing {
+            number: if short { 15 } else { number },
+            length: length as u64,
+        };
+        let bytes = if short { &[] } else { &normal[..] };
+        let (writing, output) = lent::write(words, room);
+        assert_eq!(writing, due, "{room} bytes lent: {words:?}");
+        assert!(output == bytes, "{room} bytes lent: {words:?}");
     }
 }
 

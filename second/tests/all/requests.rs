@@ -30,8 +30,11 @@ const ANSWERS: [(&str, &str); 16] = [
         "number 15 length 2 stray 0 output -",
     ),
     ("write 0", "number 12 length 0 stray 0 output -"),
-    ("length 1 1 7 0 1 0 64", "number 0 length 2"),
-    ("length", "number 12 length 0"),
+    (
+        "write 0 1 1 7 0 1 0 64",
+        "number 15 length 2 stray 0 output -",
+    ),
+    ("write 0 0 0 4 0", "number 0 length 0 stray 0 output -"),
     (
         "normalise E10A 7 1",
         "number 0 place 0 words 7 length 1 missing 0 stray 0 table 1 1 7 0 1 0 10 output 8A",
@@ -81,7 +84,8 @@ fn what_is_no_request_is_answered_with_help() {
         "write",
         "write x",
         "write 4 18446744073709551616",
-        "length 1.5",
+        "write 0 1.5",
+        "length 1 1 7 0 1 0 64",
         "normalise C2 4",
         "list",
         "list C2 C2",

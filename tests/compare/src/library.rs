@@ -42,24 +42,13 @@ pub fn read(message: &[u8], table: &mut [u64], empty: Empty) -> Reading {
     }
 }
 
-/// Writes a table's normal form into a lent output.
+/// Writes a table's normal form into a lent output. An empty one asks its length.
 pub fn write(table: &[u64], output: &mut [u8], empty: Empty) -> Writing {
     let (words, bytes) = (table.len(), output.len());
     let from = pointer(table, empty);
     let to = pointer_mut(output, empty);
     // Both slices live through the call, and the second is borrowed for it alone.
     let answer = unsafe { sys::msdtp_write(from, words, to, bytes) };
-    Writing {
-        number: answer.number,
-        length: answer.length,
-    }
-}
-
-/// Tells the length of a table's normal form.
-pub fn normal_length(table: &[u64], empty: Empty) -> Writing {
-    let from = pointer(table, empty);
-    // The slice lives through the call.
-    let answer = unsafe { sys::msdtp_normal_length(from, table.len()) };
     Writing {
         number: answer.number,
         length: answer.length,

@@ -52,6 +52,11 @@ impl Checker {
         self.output.library.lent()
     }
 
+    /// Whether the library left that output as it was from a byte on.
+    pub fn output_is_kept_from(&self, byte: usize) -> bool {
+        self.output.library.is_kept_from(byte)
+    }
+
     /// Fails with the first failure, if there was one.
     pub fn must_agree(&self) {
         if let Some(failure) = &self.failure {
@@ -112,6 +117,7 @@ impl Checker {
         answer
     }
 
+    /// Writes. No room asks the length.
     pub fn writing(&mut self, table: &[u64], room: usize) -> second::Writing {
         let expected = second::write(table, self.output.second.room(room));
         give(&mut self.given, table);
@@ -121,20 +127,6 @@ impl Checker {
             answer = library::write(self.given.library.lent(), output, empty);
             self.compare(&answer, &expected, || {
                 let head = format!("\nwriting, {room} bytes lent, empty slices {empty:?}");
-                format!("{head}\ntable {}\n", told::words(table))
-            });
-        }
-        answer
-    }
-
-    pub fn normal_length(&mut self, table: &[u64]) -> second::Writing {
-        let expected = second::normal_length(table);
-        give(&mut self.given, table);
-        let mut answer = expected;
-        for &empty in ways(table.is_empty()) {
-            answer = library::normal_length(self.given.library.lent(), empty);
-            self.compare(&answer, &expected, || {
-                let head = format!("\nnormal length, empty slices {empty:?}");
                 format!("{head}\ntable {}\n", told::words(table))
             });
         }

@@ -15,6 +15,16 @@ pub fn items(chance: &mut Chance, depth: usize) -> Vec<Item> {
     items
 }
 
+/// Some items, sometimes inside STRUCs: up to two more than may be written.
+pub fn nested_items(chance: &mut Chance) -> Vec<Item> {
+    let levels = match chance.once_in(4) {
+        true => chance.below(19),
+        false => 0,
+    };
+    let innermost = items(chance, 6);
+    (0..levels).fold(innermost, |inner, _| vec![Item::Struc(inner)])
+}
+
 /// The last one or two items once more, or a few times.
 fn double_the_last(chance: &mut Chance, items: &mut Vec<Item>) {
     let last = items.len() - (1 + chance.below(2)).min(items.len());

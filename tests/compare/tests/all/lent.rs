@@ -48,6 +48,12 @@ impl<T: Pattern> Lent<T> {
         self.lent()
     }
 
+    /// Whether the margins, and what is lent from an element on, are as filled.
+    pub fn is_kept_from(&self, element: usize) -> bool {
+        let mut margins_and_rest = (0..MARGIN).chain(MARGIN + element..self.all.len());
+        margins_and_rest.all(|at| self.all[at] == T::at(at))
+    }
+
     /// What is lent, as it is now.
     pub fn lent(&self) -> &[T] {
         &self.all[MARGIN..self.all.len() - MARGIN]

@@ -18,6 +18,10 @@ mod tables;
 mod told;
 mod vector_files;
 
+// What is shared with the program that counts instructions.
+#[path = "../../src/bin/linear/hostile_tables.rs"]
+mod hostile_tables;
+
 // What is shared with the tests of the second program.
 #[allow(dead_code)]
 #[path = "../../../../second/tests/all/chance.rs"]
@@ -53,5 +57,7 @@ mod format_page;
 mod kind_pairs;
 mod missing;
 mod missing_sizes;
+mod one_call;
+mod one_call_changed;
 mod refusals_page;
 mod stretches;

@@ -13,7 +13,7 @@ use crate::told;
 use compare::library::{self, Empty};
 use std::collections::{BTreeMap, BTreeSet};
 
-/// The numbers of the four operations. Others have tests of their own.
+/// The numbers of reading, writing and normalising. Others have tests of their own.
 const LAST: u64 = 15;
 
 /// A row of the page: the number, which is 0 for EMPTY, its name, and the cells
@@ -31,7 +31,7 @@ fn tables() -> Vec<(Vec<String>, Vec<String>)> {
     pages::tables("REFUSALS.md")
 }
 
-/// The rows of the numbers of the four operations, in the page's order.
+/// The rows of the numbers of these operations, in the page's order.
 fn page() -> Vec<Line> {
     let rows = tables().into_iter().filter(|(heads, _)| heads[0] == "No.");
     let lines = rows.map(|(heads, row)| line(&heads, &row));
@@ -128,17 +128,15 @@ fn reading_as_told(checker: &mut Checker, line: &Line, message: &[u8], lent: usi
     });
 }
 
-/// Writing answers as the page says, without a place, and the normal length the
-/// same but for 15.
+/// Writing answers as the page says, without a place; it answers the same where an
+/// empty output is lent.
 fn writing_as_told(checker: &mut Checker, line: &Line, table: &[u64], room: usize, length: u64) {
-    let answer = checker.writing(table, room);
-    let told = answer.number.to_string();
-    let same = answer.number == line.number && told == line.answer && answer.length == length;
-    checker.must(same, || format!("{}, not {answer:?}", line.name));
-    let due = if line.number == 15 { 0 } else { line.number };
-    let answer = checker.normal_length(table);
-    let same = answer.number == due && answer.length == length;
-    checker.must(same, || format!("normal length: {due}, not {answer:?}"));
+    for room in [room, 0] {
+        let answer = checker.writing(table, room);
+        let told = answer.number.to_string();
+        let same = answer.number == line.number && told == line.answer && answer.length == length;
+        checker.must(same, || format!("{}, not {answer:?}", line.name));
+    }
 }
 
 #[test]
@@ -272,7 +270,6 @@ fn table_gets(checker: &mut Checker, got: &mut Numbers, table: &[u64], room: usi
     for room in [AMPLE_BYTES, room] {
         get("writing", checker.writing(table, room).number);
     }
-    get("normal length", checker.normal_length(table).number);
 }
 
 /// The message that a row names besides the smallest, in backticks.
@@ -281,8 +278,8 @@ fn named(line: &Line) -> Option<Vec<u8>> {
     message(rest.split_inclusive(';').next()?.trim_end_matches(';'))
 }
 
-/// The four operations and the listing get, for what is on the page, exactly
-/// the numbers that it has for them. The listing is the second program's;
+/// The operations get, for what is on the page, exactly the numbers that it has
+/// for them, and it has no other operation. The listing is the second program's;
 /// `tests/listings.sh` holds sheetlist against it. 2,666 rows are a listing's
 /// too many.
 #[test]
@@ -300,9 +297,7 @@ fn each_operation_gets_its_numbers() {
     }
     message_gets(&mut checker, &mut got, &[0x81; 2_666], AMPLE_WORDS);
     checker.must_agree();
-    let mut told = operations();
-    told.retain(|operation, _| got.contains_key(operation));
-    assert_eq!(got, told, "the numbers of each operation");
+    assert_eq!(got, operations(), "the numbers of each operation");
 }
 
 /// The limits of sheetlist that the rows of 1 and 11 tell.

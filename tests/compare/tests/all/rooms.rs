@@ -8,7 +8,7 @@ pub const AMPLE_WORDS: usize = 65_540;
 /// Enough for every normal form.
 pub const AMPLE_BYTES: usize = 65_536;
 /// Added to what is needed, or lent where a refusal is due at once.
-const MORE: usize = 40;
+pub const MORE: usize = 40;
 
 /// The rooms to try. Nothing is needed where a refusal is due in any room.
 fn rooms(needed: usize) -> Vec<usize> {
@@ -26,10 +26,9 @@ impl Checker {
         }
     }
 
-    /// Writes in every room, and asks for the normal length.
     pub fn writing_in_every_room(&mut self, table: &[u64]) {
-        self.normal_length(table);
-        for room in rooms(second::normal_length(table).length as usize) {
+        let needed = second::write(table, &mut []).length as usize;
+        for room in rooms(needed) {
             self.writing(table, room);
         }
     }

@@ -1,10 +1,9 @@
-//! Writing and the normal length: vectors, and tables of items by chance.
+//! Writing: vectors, and tables of items by chance.
 
 use crate::chance::Chance;
 use crate::checker::Checker;
-use crate::items_by_chance::items;
+use crate::items_by_chance::nested_items;
 use crate::makers;
-use crate::plain::items::Item;
 use crate::plain::tables::table;
 use crate::rooms::AMPLE_BYTES;
 use crate::small_stack::{in_both_stacks, in_small_stack, report, rounds, AT_ONCE};
@@ -14,7 +13,7 @@ use crate::vector_files::{with_key, Vector};
 #[test]
 fn vectors() {
     let mut checker = Checker::new();
-    let vectors = with_key("write", 126);
+    let vectors = with_key("write", 226);
     in_both_stacks(&mut checker, |checker| {
         vectors
             .iter()
@@ -28,20 +27,12 @@ fn agree_with(checker: &mut Checker, vector: &Vector) {
     let table = vector.block.words("table").expect("a table");
     let expected = vector.block.words("write").expect("what writing answers");
     let name = &vector.name;
-    {
-        let answer = checker.writing(&table, vector.lent("room", AMPLE_BYTES));
-        let same = [answer.number, answer.length][..] == expected[..];
-        checker.must(same, || format!("{name}: {answer:?}"));
-        let bytes = vector.block.bytes("bytes").unwrap_or_default();
-        let same = checker.output().starts_with(&bytes);
-        checker.must(same, || format!("{name}: not these bytes"));
-    }
-    {
-        let answer = checker.normal_length(&table);
-        let number = if expected[0] == 15 { 0 } else { expected[0] };
-        let same = [answer.number, answer.length] == [number, expected[1]];
-        checker.must(same, || format!("{name}: normal length {answer:?}"));
-    }
+    let answer = checker.writing(&table, vector.lent("room", AMPLE_BYTES));
+    let same = [answer.number, answer.length][..] == expected[..];
+    checker.must(same, || format!("{name}: {answer:?}"));
+    let bytes = vector.block.bytes("bytes").unwrap_or_default();
+    let same = checker.output().starts_with(&bytes);
+    checker.must(same, || format!("{name}: not these bytes"));
     checker.writing_in_every_room(&table);
 }
 
@@ -73,17 +64,10 @@ fn many(test: &str, usual: usize, mut make: impl FnMut(&mut Chance) -> Vec<u64>)
 fn with_and_without(checker: &mut Checker, table: &[u64], tail: &[u64]) {
     checker.writing_in_every_room(table);
     let longer = [table, tail].concat();
-    {
-        let answer = checker.writing(table, 300);
+    for room in [0, 300] {
+        let answer = checker.writing(table, room);
         let bytes = checker.output().to_vec();
-        let same = checker.writing(&longer, 300) == answer && checker.output() == bytes;
-        checker.must(same, || {
-            format!("words past the data matter: {}", told::words(&longer))
-        });
-    }
-    {
-        let answer = checker.normal_length(table);
-        let same = checker.normal_length(&longer) == answer;
+        let same = checker.writing(&longer, room) == answer && checker.output() == bytes;
         checker.must(same, || {
             format!("words past the data matter: {}", told::words(&longer))
         });
@@ -93,13 +77,7 @@ fn with_and_without(checker: &mut Checker, table: &[u64], tail: &[u64]) {
 #[test]
 fn tables_of_items_by_chance() {
     many("writing::tables_of_items_by_chance", 400, |chance| {
-        let levels = if chance.once_in(4) {
-            chance.below(19)
-        } else {
-            0
-        };
-        let innermost = items(chance, 6);
-        table(&(0..levels).fold(innermost, |inner, _| vec![Item::Struc(inner)]))
+        table(&nested_items(chance))
     });
 }
 

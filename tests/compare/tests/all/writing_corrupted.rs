@@ -11,7 +11,7 @@ use crate::small_stack::{in_small_stack, report, rounds, AT_ONCE};
 const THIRD: u64 = u64::MAX / 3;
 
 /// Values for a word, near its own and far from it.
-fn values(word: u64, neighbour: u64) -> [u64; 24] {
+pub fn values(word: u64, neighbour: u64) -> [u64; 24] {
     let high = 1 << 63;
     [
         0,

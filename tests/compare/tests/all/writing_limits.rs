@@ -3,6 +3,7 @@
 use crate::checker::Checker;
 use crate::plain::items::Item;
 use crate::plain::tables;
+use crate::rooms::AMPLE_BYTES;
 use crate::small_stack::{in_both_stacks, report};
 use crate::tables::{nest, table, Row};
 use crate::told;
@@ -12,22 +13,15 @@ const INT: Row = [1, 0, 0];
 /// A table and the number due for it.
 type Case = (Vec<u64>, u64);
 
-/// Writes each in every room and lends ample room; the number is the one due.
+/// Writes each in every room, ample room too, where the number is the one due.
 fn agree(test: &str, cases: &[Case]) {
     let mut checker = Checker::new();
     in_both_stacks(&mut checker, |checker| {
         for (table, number) in cases {
-            {
-                let answer = checker.writing(table, crate::rooms::AMPLE_BYTES);
-                let told = || format!("{number} due, not {answer:?}: {}", told::words(table));
-                checker.must(answer.number == *number, told);
-            }
+            let answer = checker.writing(table, AMPLE_BYTES);
+            let told = || format!("{number} due, not {answer:?}: {}", told::words(table));
+            checker.must(answer.number == *number, told);
             checker.writing_in_every_room(table);
-            {
-                let answer = checker.normal_length(table);
-                let told = || format!("{number} due, not {answer:?}: {}", told::words(table));
-                checker.must(answer.number == *number, told);
-            }
         }
     });
     report(test, cases.len() as u64, &checker);
@@ -115,7 +109,8 @@ fn broad_nests() {
     agree("writing_limits::broad_nests", &cases);
 }
 
-fn integers(long: usize, short: usize) -> Vec<Item> {
+/// INTs of nine bytes, then INTs of one.
+pub fn integers(long: usize, short: usize) -> Vec<Item> {
     [vec![Item::Int(i64::MAX); long], vec![Item::Int(0); short]].concat()
 }
 
@@ -183,16 +178,13 @@ fn edges_of_the_paper() {
         for (item, begins, length) in edges() {
             let table = tables::table(&[item]);
             checker.writing_in_every_room(&table);
-            {
-                let answer = checker.normal_length(&table);
-                let same = answer.length == length as u64;
-                checker.must(same, || format!("{length} bytes due: {answer:?}"));
-            }
-            {
-                let answer = checker.writing(&table, length);
-                let same = answer.length == length as u64 && checker.output().starts_with(&begins);
-                checker.must(same, || format!("{} due: {answer:?}", told::bytes(&begins)));
-            }
+            let asked = checker.writing(&table, 0);
+            checker.must(asked.length == length as u64, || {
+                format!("{length} bytes due: {asked:?}")
+            });
+            let answer = checker.writing(&table, length);
+            let same = answer.length == length as u64 && checker.output().starts_with(&begins);
+            checker.must(same, || format!("{} due: {answer:?}", told::bytes(&begins)));
         }
     });
 }

@@ -1,6 +1,7 @@
 //! How long the library takes beside the second program, by kind of message.
 //!
-//! Both are run by turns in one run, and the shortest of many rounds counts.
+//! Both are run by turns in one run, and the shortest of many rounds counts. To
+//! ask is to write with an empty output lent, which tells the length.
 //! Buffers are lent as the call before left them. The floor is a plain loop
 //! that stores as many words as the table has.
 
@@ -30,7 +31,7 @@ impl Operation {
     }
 }
 
-/// Slices are never empty here.
+/// The output lent to ask a length is empty, and passed by the pointer that it has.
 const EMPTY: library::Empty = library::Empty::AsItIs;
 
 const OPERATIONS: [Operation; 4] = [
@@ -55,13 +56,13 @@ const OPERATIONS: [Operation; 4] = [
         },
     },
     Operation {
-        name: "normal_length",
+        name: "ask",
         of_table: true,
         library: |lent| {
-            black_box(library::normal_length(&lent.given, EMPTY));
+            black_box(library::write(&lent.given, &mut [], EMPTY));
         },
         second: |lent| {
-            black_box(second::normal_length(black_box(&lent.given)));
+            black_box(second::write(black_box(&lent.given), &mut []));
         },
     },
     Operation {
