@@ -1,5 +1,5 @@
 -- What holds of the three answers case by case: the ground of the theorems in Demands.antt, ReadExactly.antt,
--- WriteExactly.antt and NormaliseExactly.antt. Assumes nothing.
+-- WriteExactly.antt, OneCall.antt and NormaliseExactly.antt. Assumes nothing.
 use Prim.Native.Nat.{ℕ, _≤_, _<_}
 use mathlib.Core.Path.{_≡_, refl, sym, ap, _∙_, subst}
 use mathlib.Core.Logic.{inl, inr, _↔_}
@@ -14,10 +14,10 @@ use Rattle.format.specs.Messages.{Outcome, refused, says, outcome}
 use Rattle.format.specs.Tables.{rows, dataWords, tableOf, wordsNeeded, itemsOf}
 use Rattle.format.specs.Normal.{normal, depth}
 use Rattle.format.specs.Answers.{Reading, unread, faulty, over, laid, readingOf, reading, Writing, unwritten, put, writingOf, writing}
-use Rattle.format.proofs.Choices.{ifLt-no, byLt}
+use Rattle.format.proofs.Choices.{ifLt-yes, ifLt-no, byLt, split}
 use Rattle.format.proofs.Faults.{fault-inside, few-missing}
 use Rattle.format.proofs.TableLaws.{table-back, table-only}
-use Rattle.message.specs.Words.{Says, NoneDue, OverLimits, IsTable, NoTable, Writable}
+use Rattle.message.specs.Words.{Says, NoneDue, OverLimits, IsTable, NoTable, Unwritable, no-table, too-deep, too-long, Writable}
 
 -- two things that both hold, or that both fail
 pub both-hold {ℓ κ} : {A : Type ℓ} {B : Type κ} → A → B → A ↔ B
@@ -105,6 +105,27 @@ same-depth w xs ys i j = ap depth (one-table w xs ys i j)
 pub same-length : (w : List ℕ) (xs ys : Items) → IsTable w xs → IsTable w ys → length (normal xs) ≡ length (normal ys)
 same-length w xs ys i j = ap (λ z. length (normal z)) (one-table w xs ys i j)
 
+-- A table is judged before its output is looked at: it is refused alike whatever is lent, or its normal form is put there.
+pub data Judged (w : List ℕ) : Type 0 where
+  no-form : (n : ℕ) → Unwritable w n → ((o : List ℕ) → writing w o ≡ unwritten n 0 o) → Judged w
+  form : (xs : Items) → IsTable w xs → Writable xs (length (normal xs)) → ((o : List ℕ) → writing w o ≡ put o (normal xs)) → Judged w
+
+pub judged : (w : List ℕ) → Judged w
+unfolding writing
+judged w = go (itemsOf w) refl
+  where
+    go : (i : Option Items) → itemsOf w ≡ i → Judged w
+    go none e = no-form 12 (no-table (no-items w e)) (λ o. ap (λ i. writingOf i o) e ∙ (unfold writingOf in refl))
+    go (some xs) e =
+        let t = table-of-items w xs e in
+        split depthLimit (depth xs)
+        (λ h. no-form 13 (too-deep xs t h) (λ o. ap (λ i. writingOf i o) e ∙ (unfold writingOf in ifLt-yes depthLimit (depth xs) _ _ h)))
+        (λ d. split byteLimit (length (normal xs))
+        (λ h. no-form 14 (too-long xs t d h) (λ o.
+        ap (λ i. writingOf i o) e ∙ (unfold writingOf in ifLt-no depthLimit (depth xs) _ _ d ∙ ifLt-yes byteLimit (length (normal xs)) _ _ h)))
+        (λ l. form xs t (record { shallow = d; short = l; room = omega arith }) (λ o.
+        ap (λ i. writingOf i o) e ∙ (unfold writingOf in ifLt-no depthLimit (depth xs) _ _ d ∙ ifLt-no byteLimit (length (normal xs)) _ _ l))))
+
 -- A fact of each answer that writing can give, with what makes it due, is a fact of its answer: 12; 13; 14; 15; 0.
 pub write-by : (w o : List ℕ) (P : Writing → Type 0) → (NoTable w → P (unwritten 12 0 o))
     → ((xs : Items) → IsTable w xs → depthLimit < depth xs → P (unwritten 13 0 o))
@@ -114,18 +135,19 @@ pub write-by : (w o : List ℕ) (P : Writing → Type 0) → (NoTable w → P (u
     → ((xs : Items) → IsTable w xs → Writable xs (length o)
     → P (record { number = 0; length = length (normal xs); output = over (normal xs) o }))
     → P (writing w o)
-unfolding writing
-write-by w o P wrong deep long room all = go (itemsOf w) refl
+write-by w o P wrong deep long room all = go (judged w)
   where
-    go : (i : Option Items) → itemsOf w ≡ i → P (writingOf i o)
-    go none e = unfold writingOf in wrong (no-items w e)
-    go (some xs) e =
-        let t = table-of-items w xs e in
-        unfold writingOf put in
-        byLt P depthLimit (depth xs) (deep xs t)
-        (λ d. byLt P byteLimit (length (normal xs)) (long xs t d)
-        (λ l. byLt P (length o) (length (normal xs)) (room xs t (record { shallow = d; short = l; room = omega arith }))
-        (λ r. all xs t (record { shallow = d; short = l; room = r }))))
+    refuse : (n : ℕ) → Unwritable w n → P (unwritten n 0 o)
+    refuse n (no-table x) = wrong x
+    refuse n (too-deep xs i d) = deep xs i d
+    refuse n (too-long xs i d l) = long xs i d l
+
+    go : Judged w → P (writing w o)
+    go (no-form n u f) = subst P (sym (f o)) (refuse n u)
+    go (form xs i c f) =
+        subst P (sym (f o))
+        (unfold put in
+        byLt P (length o) (length (normal xs)) (room xs i c) (λ r. all xs i (record { shallow = c .shallow; short = c .short; room = r })))
 
 -- written, with everything determined; or refused with one of the numbers 12 to 15, and the output as lent
 pub data Wrote (w o : List ℕ) : Writing → Type 0 where

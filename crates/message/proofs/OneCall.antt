@@ -4,42 +4,24 @@
 use Prim.Native.Nat.{ℕ, _≤_, _<_}
 use mathlib.Core.Path.{_≡_, refl, sym, ap, _∙_, subst}
 use mathlib.Core.Logic.{_≢_, _⊎_, inl, inr, ⊎-elim, _↔_}
-use mathlib.Core.Option.{Option, none, some}
 use mathlib.Core.List.{List, [], _++_, append-nil}
 use native.Mathlib.Omega.{arith}
 use lib.ListN.{length, drop-of-length-le}
-use Rattle.format.specs.Refusals.{byteLimit, depthLimit}
+use Rattle.format.specs.Refusals.{byteLimit}
 use Rattle.format.specs.Items.{Items, end}
-use Rattle.format.specs.Tables.{itemsOf}
 use Rattle.format.specs.Normal.{normal, depth}
-use Rattle.format.specs.Answers.{over, Writing, unwritten, put, writingOf, writing}
-use Rattle.format.proofs.Choices.{ifLt-yes, ifLt-no, byLt, split}
+use Rattle.format.specs.Answers.{over, Writing, unwritten, put, writing}
+use Rattle.format.proofs.Choices.{byLt, split}
 use Rattle.format.proofs.ItemLaws.{length-end, bytes-none}
-use Rattle.message.specs.Words.{IsTable, Writable, Asked, alike, needed, nothing}
-use Rattle.message.proofs.Cases.{table-of-items, same-length}
+use Rattle.message.specs.Words.{IsTable, Unwritable, no-table, too-deep, too-long, Writable, Asked, alike, needed, nothing}
+use Rattle.message.proofs.Cases.{same-length, Judged, no-form, form, judged}
 use Rattle.message.proofs.Demands.{written-exactly, written-normal}
 use Rattle.message.proofs.WriteExactly.{writing-15, length-needed}
 
--- A table is judged before its output is looked at: it is refused alike whatever is lent, or its normal form is put there.
-data Judged (w : List ℕ) : Type 0 where
-  no-form : (n : ℕ) → 12 ≤ n → n ≤ 14 → ((o : List ℕ) → writing w o ≡ unwritten n 0 o) → Judged w
-  form : (xs : Items) → IsTable w xs → Writable xs (length (normal xs)) → ((o : List ℕ) → writing w o ≡ put o (normal xs)) → Judged w
-
-judged : (w : List ℕ) → Judged w
-unfolding writing
-judged w = go (itemsOf w) refl
-  where
-    go : (i : Option Items) → itemsOf w ≡ i → Judged w
-    go none e = no-form 12 (omega arith) (omega arith) (λ o. ap (λ i. writingOf i o) e ∙ (unfold writingOf in refl))
-    go (some xs) e =
-        let t = table-of-items w xs e in
-        split depthLimit (depth xs)
-        (λ h. no-form 13 (omega arith) (omega arith) (λ o. ap (λ i. writingOf i o) e ∙ (unfold writingOf in ifLt-yes depthLimit (depth xs) _ _ h)))
-        (λ d. split byteLimit (length (normal xs))
-        (λ h. no-form 14 (omega arith) (omega arith) (λ o.
-        ap (λ i. writingOf i o) e ∙ (unfold writingOf in ifLt-no depthLimit (depth xs) _ _ d ∙ ifLt-yes byteLimit (length (normal xs)) _ _ h)))
-        (λ l. form xs t (record { shallow = d; short = l; room = omega arith }) (λ o.
-        ap (λ i. writingOf i o) e ∙ (unfold writingOf in ifLt-no depthLimit (depth xs) _ _ d ∙ ifLt-no byteLimit (length (normal xs)) _ _ l))))
+unwritable-number : (w : List ℕ) (n : ℕ) → Unwritable w n → (12 ≤ n) × (n ≤ 14)
+unwritable-number w n (no-table x) = (omega arith, omega arith)
+unwritable-number w n (too-deep xs i d) = (omega arith, omega arith)
+unwritable-number w n (too-long xs i d l) = (omega arith, omega arith)
 
 put-number : (o l : List ℕ) → (put o l .number ≡ 0) ⊎ (put o l .number ≡ 15)
 unfolding put
@@ -54,7 +36,7 @@ pub one-refusal : (w o p : List ℕ) → 12 ≤ writing w o .number → writing 
 one-refusal w o p = go (judged w)
   where
     go : Judged w → 12 ≤ writing w o .number → writing w o .number ≤ 14 → writing w p ≡ unwritten (writing w o .number) 0 p
-    go (no-form n a b f) h k = f p ∙ ap (λ z. unwritten z 0 p) (sym (ap (λ (r : Writing). r .number) (f o)))
+    go (no-form n u f) h k = f p ∙ ap (λ z. unwritten z 0 p) (sym (ap (λ (r : Writing). r .number) (f o)))
     go (form xs i c f) h k =
         let e = ap (λ (r : Writing). r .number) (f o) in
         absurd (⊎-elim (λ z. omega arith) (λ z. omega arith) (put-number o (normal xs)))
@@ -64,7 +46,7 @@ pub one-length : (w o p : List ℕ) → writing w o .length ≡ writing w p .len
 one-length w o p = go (judged w)
   where
     go : Judged w → writing w o .length ≡ writing w p .length
-    go (no-form n a b f) = ap (λ (r : Writing). r .length) (f o) ∙ sym (ap (λ (r : Writing). r .length) (f p))
+    go (no-form n u f) = ap (λ (r : Writing). r .length) (f o) ∙ sym (ap (λ (r : Writing). r .length) (f p))
     go (form xs i c f) =
         ap (λ (r : Writing). r .length) (f o) ∙ put-length o (normal xs)
         ∙ sym (ap (λ (r : Writing). r .length) (f p) ∙ put-length p (normal xs))
@@ -78,7 +60,9 @@ told-form w o = go (judged w)
   where
     go : Judged w → (writing w o .number ≡ 0) ⊎ (writing w o .number ≡ 15)
         → (xs : Items) × IsTable w xs × Writable xs (length (normal xs)) × (writing w o .length ≡ length (normal xs))
-    go (no-form n a b f) t = let e = ap (λ (r : Writing). r .number) (f o) in absurd (⊎-elim (λ z. omega arith) (λ z. omega arith) t)
+    go (no-form n u f) t =
+        let e = ap (λ (r : Writing). r .number) (f o) in
+        absurd (⊎-elim (λ z. omega (arith, unwritable-number w n u .0)) (λ z. omega (arith, unwritable-number w n u .1)) t)
     go (form xs i c f) t = (xs, i, c, ap (λ (r : Writing). r .length) (f o) ∙ put-length o (normal xs))
 
 -- 15 tells more than was lent, and at most 65,536: so lending what was told, even while the table changes, comes to an end.
@@ -158,5 +142,5 @@ asked w = go (judged w)
         subst (λ ys. Asked w (record { number = 0; length = length (normal ys); output = over (normal ys) [] })) (sym e) (nothing (subst (IsTable w) e i)))
 
     go : Judged w → Asked w (writing w [])
-    go (no-form n a b f) = subst (Asked w) (sym (f [])) (alike n a b f)
+    go (no-form n u f) = subst (Asked w) (sym (f [])) (alike n u f)
     go (form xs i c f) = subst (Asked w) (sym (f [])) (formed xs i c)

@@ -47,6 +47,12 @@ NoTable w = (xs : Items) → ¬ IsTable w xs
 abbrev pub headed : List ℕ → ℕ
 headed w = 4 + 3 * getD w 0 0 + getD w 3 0
 
+-- "Writing order: 12, 13, 14": which of them is due for words, and why
+pub data Unwritable (w : List ℕ) : ℕ → Type 0 where
+  no-table : NoTable w → Unwritable w 12
+  too-deep : (xs : Items) → IsTable w xs → depthLimit < depth xs → Unwritable w 13
+  too-long : (xs : Items) → IsTable w xs → depth xs ≤ depthLimit → byteLimit < length (normal xs) → Unwritable w 14
+
 -- None of the numbers 13, 14 and 15 is due for a table of these items, and an output of n bytes.
 pub record Writable (xs : Items) (n : ℕ) : Type 0 where
   pub shallow : depth xs ≤ depthLimit
@@ -67,7 +73,7 @@ given a = take (a .length) (a .output)
 -- "A caller that wants only the length lends an empty output". What it receives for any words w: 12, 13 or 14, as with any other
 -- output; "15 with the length needed", and room of that length is filled; "or length 0 with result 0 for a table of no items".
 pub data Asked (w : List ℕ) : Writing → Type 0 where
-  alike : (n : ℕ) → 12 ≤ n → n ≤ 14 → ((o : List ℕ) → writing w o ≡ unwritten n 0 o) → Asked w (unwritten n 0 [])
+  alike : (n : ℕ) → Unwritable w n → ((o : List ℕ) → writing w o ≡ unwritten n 0 o) → Asked w (unwritten n 0 [])
   needed : (xs : Items) → IsTable w xs → xs ≢ end
       → ((o : List ℕ) → length o ≡ length (normal xs) → writing w o ≡ record { number = 0; length = length o; output = normal xs })
       → Asked w (unwritten 15 (length (normal xs)) [])

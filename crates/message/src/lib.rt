@@ -85,7 +85,8 @@ pub fn read(message: &[u8], table: &mut [u64]) -> Reading
     }
 }
 
-// Any words to the normal form of their items, or a numbered refusal that leaves the output as lent.
+// Any words to the normal form of their items, or a numbered refusal that leaves the output as lent. Whoever wants only the
+// length lends an empty output.
 pub fn write(table: &[u64], output: &mut [u8]) -> Writing
     ensures { λ r. ⌜ writeTold r (now (output .exit)) ≡ writing (now (table .entry)) (now (output .entry)) ⌝ }
 {

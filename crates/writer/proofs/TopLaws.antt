@@ -1,6 +1,6 @@
 -- From the verdict on a table to writing's answer. Assumes nothing.
 use mathlib.Core.Path.{_≡_, refl, sym, _∙_, ap, subst}
-use mathlib.Core.List.{List, [], _∷_}
+use mathlib.Core.List.{List}
 use mathlib.Core.Bool.{Bool, true, false}
 use mathlib.Core.Option.{Option, none, some}
 use Prim.Native.Nat.{ℕ, _<_, _≤_}
@@ -13,6 +13,7 @@ use Rattle.format.specs.Tables.{count, dataWords, itemsOf}
 use Rattle.format.specs.Normal.{normal, depth}
 use Rattle.format.specs.Answers.{over, unwritten, put, writingOf, writing}
 use Rattle.format.proofs.Choices.{ifLt-yes, ifLt-no, byLt}
+use Rattle.format.proofs.ItemLaws.{bytes-none}
 use Rattle.writer.specs.Rows.{Stands, itemsAt, Run, Header, HeaderJudged, isSome}
 use Rattle.writer.specs.Surveys.{Placed, NoItems, TooDeep, Passed}
 use Rattle.writer.specs.Measures.{Fits}
@@ -192,13 +193,9 @@ write-whole w t n e l =
     normal-put w n t s ∙ rw (← s .size) (ifLt-no (length t) n _ _ l)
 
 pub write-none : (w t : List ℕ) (n : ℕ) → Normal n ≡ verdict w → n ≤ length t → n ≡ 0 → writing w t ≡ unwritten 0 n t
-unfolding over
+unfolding over normal
 write-none w t n e l z =
-    write-whole w t n e l ∙ ap (λ l. unwritten 0 n (over l t)) (length-none (normal (allOf w)) (sym (sound-of w n e .size) ∙ z))
-  where
-    length-none : (l : List ℕ) → length l ≡ 0 → l ≡ []
-    length-none [] h = refl
-    length-none (x ∷ l) h = absurd (omega arith)
+    write-whole w t n e l ∙ ap (λ xs. unwritten 0 n (over (normal xs) t)) (bytes-none (allOf w) (sym (sound-of w n e .size) ∙ z))
 
 pub whole-fits : (w : List ℕ) (n k : ℕ) → Normal n ≡ verdict w → n ≤ k → Fits w 0 (getD w 0 0) 16 k
 whole-fits w n k e l =
