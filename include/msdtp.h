@@ -24,12 +24,13 @@ extern "C" {
  * This header belongs to the archive of the same version. What was compiled
  * with another must be compiled again. In 0.4.0 the answers' structures grew; in
  * 0.5.0 the function that told only a length went: lend msdtp_write an empty
- * output instead.
+ * output instead; in 0.6.0 a string became one row, with its characters in data
+ * words: what makes or walks tables must be changed.
  */
 #define MSDTP_VERSION_MAJOR 0
-#define MSDTP_VERSION_MINOR 5
+#define MSDTP_VERSION_MINOR 6
 #define MSDTP_VERSION_PATCH 0
-#define MSDTP_VERSION "0.5.0"
+#define MSDTP_VERSION "0.6.0"
 
 /*
  * LENT BUFFERS
@@ -85,13 +86,13 @@ typedef char msdtp_size_t_has_64_bits[sizeof(size_t) == 8 ? 1 : -1];
 #define MSDTP_BAD_REPEAT 7     /* REPEAT outermost, without an INT first, or
                                   with a negative one */
 #define MSDTP_SEVERAL_KINDS 8  /* USTRUC whose elements are not of one kind. The
-                                  kinds are those of the table, so a string and
-                                  another STRUC are of one */
+                                  kinds are those of the table, but a string
+                                  and another STRUC are of one */
 #define MSDTP_BAD_EDT 9        /* EDT that breaks the EDT rule (see the table) */
 #define MSDTP_TOO_MANY 10      /* over MSDTP_ROW_LIMIT or MSDTP_WORD_LIMIT */
 #define MSDTP_TABLE_SHORT 11   /* the lent table is too short */
 #define MSDTP_NOT_A_TABLE 12   /* the table to write is not well formed */
-#define MSDTP_TOO_NESTED 13    /* a STRUC or EDT inside sixteen others */
+#define MSDTP_TOO_NESTED 13    /* a STRUC, string or EDT inside sixteen others */
 #define MSDTP_NORMAL_LONG 14   /* the normal form is over MSDTP_BYTE_LIMIT */
 #define MSDTP_OUTPUT_SHORT 15  /* the lent output is too short */
 
@@ -109,7 +110,7 @@ static inline const char *msdtp_meaning(uint64_t number)
     case 7: return "a repeat where none may stand, or without a proper count";
     case 8: return "a list that promises one kind and holds several";
     case 9: return "an EDT whose first two elements are not its type and its version";
-    case 10: return "more than 16,384 rows, or more than 16,384 words of bits";
+    case 10: return "more than 16,384 rows, or more than 16,384 words of bits and strings";
     case 11: return "the table that was lent is too short";
     case 12: return "what was given to write is no table of items";
     case 13: return "more than sixteen containers, one inside the other";
@@ -122,7 +123,9 @@ static inline const char *msdtp_meaning(uint64_t number)
 /*
  * LIMITS AND SIZES
  *
- * What is exactly at a limit is within it.
+ * What is exactly at a limit is within it. A string counts as one row and its
+ * data words: a table can hold one of 131,072 characters, and a normal form one
+ * of 65,532.
  */
 #define MSDTP_BYTE_LIMIT 65536 /* bytes of a message, and of a normal form */
 #define MSDTP_ROW_LIMIT 16384  /* rows of a table */
@@ -144,20 +147,21 @@ static inline const char *msdtp_meaning(uint64_t number)
  *   word 2   the offset of the data in the table: 4 + 3 * R
  *   word 3   D, the number of data words
  *   then     R rows of three words: kind, a, b. Row r is at word 4 + 3 * r
- *   then     D data words, the bits of all BITS
+ *   then     D data words: the bits of all BITS, the characters of all strings
  *
  * The table ends there, after 4 + 3 * R + D words. Words past the data belong
  * to the caller: they are neither read nor changed.
  *
- *   kind               a                  b
- *   INT                0                  the value in two's complement, so that
- *                                         (uint64_t)-1 is -1; -2^63 to 2^63 - 1
- *   BITS               number of bits     its first data word (see below)
- *   CHAR               0                  the code, 0 to 127
- *   BOOL               0                  0 for FALSE, 1 for TRUE
- *   EMPTY              0                  0
- *   XTRA               0                  0 to 3
- *   STRUC, EDT         direct elements    rows beneath
+ *   kind         a                      b
+ *   INT          0                      the value in two's complement, so that
+ *                                       (uint64_t)-1 is -1; -2^63 to 2^63 - 1
+ *   BITS         number of bits         its first data word (see below)
+ *   CHAR         0                      the code, 0 to 127
+ *   BOOL         0                      0 for FALSE, 1 for TRUE
+ *   EMPTY        0                      0
+ *   XTRA         0                      0 to 3
+ *   STRUC, EDT   direct elements        rows beneath
+ *   STRING       number of characters   its first data word (see below)
  */
 #define MSDTP_INT 1
 #define MSDTP_BITS 2
@@ -167,12 +171,14 @@ static inline const char *msdtp_meaning(uint64_t number)
 #define MSDTP_XTRA 6
 #define MSDTP_STRUC 7
 #define MSDTP_EDT 8
+#define MSDTP_STRING 9
 
 /*
  * Rows. Every item is one row, and the rows of its elements follow it at once,
- * in order, each again followed by those of its own elements. The direct
- * elements of a STRUC or EDT are the items right inside it. The rows beneath it
- * are the rows of all items inside it, at any depth; an empty one has 0 and 0.
+ * in order, each again followed by those of its own elements. Only a string has
+ * no rows for its characters. The direct elements of a STRUC or EDT are the items
+ * right inside it. The rows beneath it are the rows of all items inside it, at
+ * any depth. Neither is ever 0: a STRUC of none is a string.
  *
  * To walk, begin at row 0; there are as many items as word 1 says. From the
  * item in row r, the next item beside it is in row r + 1, or in row r + 1 + b
@@ -180,26 +186,42 @@ static inline const char *msdtp_meaning(uint64_t number)
  * r + 1, and there are a of them.
  *
  * Strings. A STRUC whose elements are all CHAR, the empty one too, is a string.
- * STRUC, USTRUC and STRING objects all say a STRUC; a table does not tell which
- * one it was. REPEATs are laid out in full, and PADDING says nothing.
+ * It is a row of kind STRING, whatever object says it, and never one of kind
+ * STRUC. So a CHAR has a row only where it is outermost, in an EDT, or in a STRUC
+ * beside an element that is no CHAR. STRUC, USTRUC and STRING objects all say a
+ * STRUC; a table does not tell which one it was. REPEATs are laid out in full,
+ * and PADDING says nothing.
  *
  * The EDT rule. An EDT has two elements or more; the first is an INT or a
  * string, the second an INT.
  *
- * Data words. Each BITS begins a new word. Its first bit is the highest bit of
- * that word (UINT64_C(1) << 63), its 65th that of the next. n bits take n / 64
- * words, rounded up, and the spare low bits of the last one are 0. The BITS
- * follow one another in the order of their rows, with no word between them, so
- * b is the number of data words that the BITS in the rows before it take. It is
- * counted from the start of the data, not of the table: the first word is
- * table[table[2] + b]. A BITS of no bits takes no word, and has that same b.
+ * Data words. Each BITS and each string begins a new word. They follow one
+ * another in the order of their rows, with no word between them, so b is the
+ * number of data words that the BITS and strings in the rows before it take. It
+ * is counted from the start of the data, not of the table: the first word is
+ * table[table[2] + b]. A BITS of no bits and a string of no characters take no
+ * word, and have that same b.
+ *   - The first bit of a BITS is the highest bit of its first word
+ *     (UINT64_C(1) << 63), its 65th that of the next. n bits take n / 64 words,
+ *     rounded up, and the spare low bits of the last one are 0.
+ *   - The characters of a string are their codes, 0 to 127, eight to a word and
+ *     a byte for each. The first is the highest byte of the first word, the ninth
+ *     that of the next. n characters take n / 8 words, rounded up, and the spare
+ *     low bytes of the last one are 0. Counted from 0, the code at i is
+ *     table[table[2] + b + i / 8] >> (56 - 8 * (i % 8)) & 0xFF.
+ *
+ * So "HELLO", alone in a table, is the row MSDTP_STRING 5 0 and the data word
+ * 48454C4C4F000000 hex: 48 45 4C 4C 4F are its codes, and three bytes are spare.
+ * The whole table is 1, 1, 7, 1, 9, 5, 0, UINT64_C(0x48454C4C4F000000).
  *
  * A table is WELL FORMED when it is exactly the table of some items as told
  * above, with at most MSDTP_ROW_LIMIT rows and MSDTP_WORD_LIMIT data words, and
  * is lent whole. Any other words are refused with 12: another kind, an a or b
- * that is not as told, elements that do not add up, a data word that belongs to
- * no BITS, a spare bit that is not 0, an EDT against the rule, fewer words than
- * the header tells. How deep it nests is not asked for there, but with 13.
+ * that is not as told, elements that do not add up, a STRUC that is empty or has
+ * only CHARs, a data word that belongs to no BITS and no string, a code over 127,
+ * a spare bit or byte that is not 0, an EDT against the rule, fewer words than
+ * the header tells. How deep it nests is not asked for there, but with 13, where
+ * a string counts as the STRUC that it is.
  */
 
 /*
@@ -325,18 +347,33 @@ struct msdtp_normalising msdtp_normalise(const uint8_t *message, size_t message_
  *         return w;
  *     }
  *
- *     // Two outermost items: a STRUC of the nine bits 001010011 and of a string,
- *     // "A"; and the INT -5. Five rows, so the data is at 4 + 3 * 5 = 19.
- *     static const uint64_t made[] = {
- *         5, 2, 19, 1,
- *         MSDTP_STRUC, 2, 3,
+ *     // Two outermost items: a STRUC of the nine bits 001010011 and of a string of
+ *     // eleven characters; and the INT -5. Four rows, so the data is at
+ *     // 4 + 3 * 4 = 16: one word of bits, then two for the string.
+ *     static uint64_t made[] = {
+ *         4, 2, 16, 3,
+ *         MSDTP_STRUC, 2, 2,
  *         MSDTP_BITS, 9, 0,
- *         MSDTP_STRUC, 1, 1,
- *         MSDTP_CHAR, 0, 'A',
+ *         MSDTP_STRING, 11, 1,
  *         MSDTP_INT, 0, (uint64_t)-5,
- *         UINT64_C(0x2980000000000000)
+ *         UINT64_C(0x2980000000000000), 0, 0
  *     };
  *     static uint64_t table[MSDTP_TABLE_WORDS];
+ *
+ *     // Puts so many characters, of codes below 128, into data words that are 0.
+ *     static void put_string(uint64_t *words, const char *from, uint64_t count)
+ *     {
+ *         for (uint64_t i = 0; i < count; i++)
+ *             words[i / 8] |= (uint64_t)from[i] << (56 - 8 * (i % 8));
+ *     }
+ *
+ *     static void print_string(uint64_t count, uint64_t first)
+ *     {
+ *         const uint64_t *words = table + table[2] + first;
+ *         for (uint64_t i = 0; i < count; i++)
+ *             putchar((int)(words[i / 8] >> (56 - 8 * (i % 8)) & 0xFF));
+ *         putchar('\n');
+ *     }
  *
  *     static void print_bits(uint64_t count, uint64_t first)
  *     {
@@ -358,6 +395,8 @@ struct msdtp_normalising msdtp_normalise(const uint8_t *message, size_t message_
  *                 printf("%s\n", kind == MSDTP_STRUC ? "STRUC" : "EDT");
  *                 print_items(row, a, depth + 1);
  *                 row += b;
+ *             } else if (kind == MSDTP_STRING) {
+ *                 print_string(a, b);
  *             } else if (kind == MSDTP_BITS) {
  *                 print_bits(a, b);
  *             } else if (kind == MSDTP_INT) {
@@ -371,6 +410,7 @@ struct msdtp_normalising msdtp_normalise(const uint8_t *message, size_t message_
  *     int main(void)
  *     {
  *         uint8_t *output;
+ *         put_string(made + 17, "left sleeve", 11);
  *         struct msdtp_writing w = write_items(made, sizeof made / sizeof *made,
  *                                              &output);
  *         printf("%s: %" PRIu64 " bytes\n", msdtp_meaning(w.number), w.length);
@@ -379,7 +419,7 @@ struct msdtp_normalising msdtp_normalise(const uint8_t *message, size_t message_
  *             return 1;
  *         }
  *         // The STRUC has come, and the INT's type-byte; the rest is late.
- *         uint64_t come = 9;
+ *         uint64_t come = 19;
  *         struct msdtp_reading r = msdtp_read(output, come,
  *                                             table, MSDTP_TABLE_WORDS);
  *         printf("%s: %" PRIu64 " missing\n", msdtp_meaning(r.number), r.missing);
@@ -395,13 +435,12 @@ struct msdtp_normalising msdtp_normalise(const uint8_t *message, size_t message_
  *
  * It prints:
  *
- *     accepted: 10 bytes
+ *     accepted: 20 bytes
  *     the message ends in the middle of an object: 1 missing
- *     accepted: 20 words
+ *     accepted: 19 words
  *     STRUC
  *       001010011
- *       STRUC
- *         kind 3: 65
+ *       left sleeve
  *     -5
  */
 

@@ -6,7 +6,7 @@ set -u
 cd "$(dirname "$0")/compare" || exit 1
 for_each=500
 constant=20000
-calls=184
+calls=356
 work=$(mktemp -d)
 trap 'rm -rf "$work"' EXIT
 

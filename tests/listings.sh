@@ -7,7 +7,7 @@ cd "$(dirname "$0")/.." || exit 1
 program=target/bin/sheetlist
 second=second/target/release/second
 examples=6
-vectors=726
+vectors=820
 unread='sheetlist: the sheet could not be read to its end; nothing is listed'
 unwritten='sheetlist: the listing could not be written'
 . tests/tally.sh
@@ -83,6 +83,11 @@ check '2,666 rows' alike "$(many 81 2666)"
 check '235,680 bits' alike "C1827318E30398A0$(many A5 29460)"
 check '1,998 bit strings' alike 'C20EC40CE207CEF0FEDCBA9876543210'
 check '1,999 bit strings' alike 'C20EC40CE207CFF0FEDCBA9876543210'
+check 'a string of 32,764 characters' alike "C6827FFC$(many C8 32764)"
+check '63,944 characters of three digits' alike 'C207C405E300F9C87F'
+check '63,945 characters' alike 'C207C405E300F9C97F'
+check '1,998 strings of eight' alike 'C20FC40DE207CEC6085A5A5A5A5A5A5A5A'
+check '1,999 strings of eight' alike 'C20FC40DE207CFC6085A5A5A5A5A5A5A5A'
 check 'a folder as input' complains "$unread" of_folder
 check 'a closed input' complains "$unread" of_nothing
 check 'a read that fails at once' complains "$unread" of_terminal 0

@@ -65,6 +65,28 @@ static void print_bits(uint64_t count, uint64_t first)
     putchar('\n');
 }
 
+/*
+ * Prints so many characters of the table's data, from one of its words on. A
+ * quote, a backslash and what cannot be printed are printed in hexadecimal.
+ */
+static void print_string(uint64_t count, uint64_t first)
+{
+    const uint64_t *words = table + table[2] + first;
+    uint64_t at;
+
+    printf("STRING of %" PRIu64 " \"", count);
+    for (at = 0; at < count; at++) {
+        int code = (int)(words[at / 8] >> (56 - 8 * (at % 8)) & 0xFF);
+
+        if (code < ' ' || code > '~' || code == '"' || code == '\\') {
+            printf("\\x%02X", (unsigned)code);
+        } else {
+            putchar(code);
+        }
+    }
+    printf("\"\n");
+}
+
 /* Prints an INT, which the table has modulo 2^64. */
 static void print_int(uint64_t value)
 {
@@ -89,6 +111,7 @@ static void print_row(const uint64_t *row)
     case MSDTP_XTRA: printf("XTRA %" PRIu64 "\n", b); break;
     case MSDTP_STRUC: printf("STRUC of %" PRIu64 "\n", a); break;
     case MSDTP_EDT: printf("EDT of %" PRIu64 "\n", a); break;
+    case MSDTP_STRING: print_string(a, b); break;
     }
 }
 
@@ -111,7 +134,7 @@ static void print_rows(void)
         }
         printf("%*s", 2 * depth, "");
         print_row(row);
-        if ((row[0] == MSDTP_STRUC || row[0] == MSDTP_EDT) && row[2] > 0) {
+        if (row[0] == MSDTP_STRUC || row[0] == MSDTP_EDT) {
             ends[depth++] = at + 1 + row[2];
         }
     }

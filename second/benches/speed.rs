@@ -72,8 +72,6 @@ fn large_loads() -> Vec<Load> {
     let copied_bits = vec![0xC2, 7, 0xC4, 5, 0xE2, 0x3F, 0xFF, 0xF1, 0x03];
     vec![
         load("padding", "byte", vec![0xFF; 65_536], 65_536),
-        load("characters", "row", sized(0xC5, &[0x41; 16_383]), 16_384),
-        load("STRING", "row", sized(0xC6, &[0xC1; 16_383]), 16_384),
         load("small INTs", "row", vec![0x8A; 16_384], 16_384),
         load("leaves by turns", "row", mixed, 16_384),
         load(
@@ -107,6 +105,27 @@ fn large_loads() -> Vec<Load> {
     ]
 }
 
+/// Strings in every form, told for each character or string.
+fn loads_of_strings() -> Vec<Load> {
+    let by_repeat = sized(0xC2, &[0xC4, 5, 0xE3, 0x00, 0xEA, 0x60, 0x41]);
+    let from_seven = sized(0xC2, b"\xC4\x0A\xE2\x21\x7BFITTING");
+    let padded = sized(0xC2, &b"FIT\xFFTING\xFF\xFF".repeat(6_000));
+    let nine = sized(0xC6, b"SHOULDERS");
+    let copied = [&[0xC4, 14, 0xE2, 0x17, 0x0C], &nine[..]].concat();
+    let by_turns = [&nine[..], &[0xF2, 0x02, 0x53]].concat().repeat(4_500);
+    vec![
+        load("USTRUC", "character", sized(0xC5, &[0x41; 60_000]), 60_000),
+        load("STRUC", "character", sized(0xC2, &[0x41; 60_000]), 60_000),
+        load("STRING", "character", sized(0xC6, &[0xC1; 60_000]), 60_000),
+        load("one repeated", "character", by_repeat, 60_000),
+        load("seven repeated", "character", from_seven, 59_997),
+        load("with padding", "character", padded, 42_000),
+        load("strings of nine", "string", nine.repeat(5_900), 5_900),
+        load("strings copied", "string", sized(0xC2, &copied), 5_900),
+        load("strings and BITS", "string", by_turns, 4_500),
+    ]
+}
+
 /// The shortest time of a few rounds, in nanoseconds for each call.
 fn shortest(calls: usize, mut call: impl FnMut()) -> f64 {
     let round = |_| {
@@ -136,7 +155,7 @@ fn measure(load: &Load, calls: usize) {
     });
     let units = load.units as f64;
     println!(
-        "{:24} {:8} {:9.2} {:9.2} {:9.2} {:9.2}",
+        "{:24} {:9} {:9.2} {:9.2} {:9.2} {:9.2}",
         load.name,
         load.unit,
         reading / units,
@@ -148,11 +167,12 @@ fn measure(load: &Load, calls: usize) {
 
 fn main() {
     println!(
-        "{:24} {:8} {:>9} {:>9} {:>9} {:>9}",
+        "{:24} {:9} {:>9} {:>9} {:>9} {:>9}",
         "ns for a", "", "read", "write", "ask", "normalise"
     );
     let small = small_loads().into_iter().map(|load| (load, 50_000));
-    let large = large_loads().into_iter().map(|load| (load, 60));
+    let large = large_loads().into_iter().chain(loads_of_strings());
+    let large = large.map(|load| (load, 60));
     for (load, calls) in small.chain(large) {
         measure(&load, calls);
     }

@@ -4,7 +4,8 @@ use crate::kinds::{self, Row};
 
 /// Fills `rows` with copies of its first `pattern` rows, which use so many
 /// data words. Each round copies all the copies made so far, or as many as are
-/// still due, and the data of their BITS is as far on as those copies reach.
+/// still due, and the data of their BITS and strings is as far on as those copies
+/// reach.
 pub fn rows(rows: &mut [Row], pattern: usize, data_words: usize) {
     let mut made = pattern;
     while made < rows.len() {
@@ -19,11 +20,12 @@ pub fn rows(rows: &mut [Row], pattern: usize, data_words: usize) {
     }
 }
 
-/// Copies rows with the data of their BITS so many words further on.
+/// Copies rows with the data of their BITS and strings so many words further on.
 fn move_on(from: &[Row], to: &mut [Row], words: u64) {
     for (row, copy) in from.iter().zip(to) {
         let [kind, a, b] = *row;
-        let further = if kind == kinds::BITS { words } else { 0 };
+        let has_data = kind == kinds::BITS || kind == kinds::STRING;
+        let further = if has_data { words } else { 0 };
         *copy = [kind, a, b + further];
     }
 }
@@ -46,17 +48,21 @@ mod tests {
     fn each_copy_has_data_of_its_own() {
         let pattern = [
             [kinds::BITS, 65, 3],
-            [kinds::BITS, 0, 5],
+            [kinds::STRING, 0, 5],
+            [kinds::STRING, 8, 5],
+            [kinds::BITS, 0, 6],
             [kinds::INT, 0, 9],
         ];
-        let mut table = vec![[0; 3]; 3 * 7];
-        table[..3].copy_from_slice(&pattern);
-        rows(&mut table, 3, 2);
-        for (copy, rows) in table.chunks(3).enumerate() {
-            let further = 2 * copy as u64;
+        let mut table = vec![[0; 3]; 5 * 7];
+        table[..5].copy_from_slice(&pattern);
+        rows(&mut table, 5, 3);
+        for (copy, rows) in table.chunks(5).enumerate() {
+            let further = 3 * copy as u64;
             assert_eq!(rows[0], [kinds::BITS, 65, 3 + further]);
-            assert_eq!(rows[1], [kinds::BITS, 0, 5 + further]);
-            assert_eq!(rows[2], [kinds::INT, 0, 9]);
+            assert_eq!(rows[1], [kinds::STRING, 0, 5 + further]);
+            assert_eq!(rows[2], [kinds::STRING, 8, 5 + further]);
+            assert_eq!(rows[3], [kinds::BITS, 0, 6 + further]);
+            assert_eq!(rows[4], [kinds::INT, 0, 9]);
         }
     }
 

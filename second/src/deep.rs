@@ -1,6 +1,6 @@
 //! Judging a table of any depth without going down into it.
 
-use crate::judge::{after_bits, begins_edt, beneath, is_plain_leaf, Parts};
+use crate::judge::{after_bits, after_string, begins_edt, beneath, is_plain_leaf, Parts};
 use crate::kinds::{self, Row};
 
 /// Whether a table whose header agrees with it is well formed, at any depth.
@@ -15,13 +15,17 @@ pub fn is_well_formed(parts: &Parts) -> bool {
         && (0..parts.rows.len()).all(|at| edt_agrees(&parts.rows[at..]))
 }
 
-/// Whether every leaf is one that its kind allows, and BITS account for all
-/// data words in order.
+/// Whether every row without rows beneath it is one that its kind allows, and
+/// BITS and strings account for all data words in order.
 fn leaves_agree(parts: &Parts) -> bool {
     let mut used = 0;
     for &row in parts.rows {
         match row {
             [kinds::BITS, bits, word] => match after_bits(parts.data, used, bits, word) {
+                Some(after) => used = after,
+                None => return false,
+            },
+            [kinds::STRING, count, word] => match after_string(parts.data, used, count, word) {
                 Some(after) => used = after,
                 None => return false,
             },
@@ -51,9 +55,20 @@ fn elements(rows: &[Row]) -> Option<u64> {
     Some(count)
 }
 
-/// Whether the first row, if it is a STRUC or EDT, counts its elements right.
+/// Whether the first row, if it is a STRUC or EDT, counts its elements right and
+/// is no string.
 fn nest_agrees(rows: &[Row]) -> bool {
-    !is_nest(&rows[0]) || beneath(rows).and_then(elements) == Some(rows[0][1])
+    if !is_nest(&rows[0]) {
+        return true;
+    }
+    let agrees = |beneath| elements(beneath) == Some(rows[0][1]) && has_other_than_chars(beneath);
+    beneath(rows).is_some_and(agrees)
+}
+
+/// Whether not all elements are CHARs. The first other one settles it: up to
+/// there each row is an element.
+fn has_other_than_chars(beneath: &[Row]) -> bool {
+    beneath.iter().any(|row| row[0] != kinds::CHAR)
 }
 
 /// Whether the first row, if it is an EDT, begins as one must.

@@ -2,15 +2,9 @@
 
 use crate::judge::beneath;
 use crate::kinds::{self, Row};
-use crate::{bits, integers, sizes};
+use crate::{bits, integers, sizes, strings};
 
 const JUDGED: &str = "the rows have been judged";
-
-/// What a run of rows wrote: where it ends, and whether all were CHARs.
-struct Written {
-    end: usize,
-    all_chars: bool,
-}
 
 /// Writes a normal form that is exactly as long as `output`.
 pub fn normal_form(rows: &[Row], data: &[u64], output: &mut [u8]) {
@@ -23,31 +17,28 @@ struct Emitting<'t> {
 }
 
 impl Emitting<'_> {
-    /// Writes whole items one after another from `start` on.
-    fn run(&mut self, rows: &[Row], start: usize) -> Written {
-        let mut written = Written {
-            end: start,
-            all_chars: true,
-        };
+    /// Writes whole items one after another from `start` on, and tells where they
+    /// end.
+    fn run(&mut self, rows: &[Row], start: usize) -> usize {
+        let mut end = start;
         let mut at = 0;
         while at < rows.len() {
             let rest = &rows[at..];
-            let end = written.end;
             let (taken, length) = match rest[0] {
                 [kinds::CHAR, ..] => self.characters(rest, end),
                 [kinds::INT, _, 0..=0x3F] => self.small_integers(rest, end),
                 [kinds::INT, _, value] => (1, self.long_integer(value as i64, end)),
+                [kinds::STRING, count, word] => (1, self.string(count, word as usize, end)),
                 [kinds::BITS, bits, word] => (1, self.bits(bits, word as usize, end)),
                 [kinds::BOOL, _, code] => (1, self.byte(0xFC | code as u8, end)),
                 [kinds::XTRA, _, code] => (1, self.byte(0xF8 | code as u8, end)),
                 [kinds::EMPTY, ..] => (1, self.byte(0xFE, end)),
                 _ => self.container(rest, end),
             };
-            written.all_chars &= rest[0][0] == kinds::CHAR;
-            written.end += length;
+            end += length;
             at += taken;
         }
-        written
+        end
     }
 
     #[inline(always)]
@@ -131,10 +122,16 @@ impl Emitting<'_> {
         let start = self.head(0xC1, size, at);
         let stream = start + self.integer(bits, start);
         let room = &mut self.output[stream..start + size];
-        let words = &self.data[word..];
-        for (bytes, word) in room.chunks_mut(8).zip(words) {
-            bytes.copy_from_slice(&word.to_be_bytes()[..bytes.len()]);
-        }
+        put_words(room, &self.data[word..]);
+        start + size - at
+    }
+
+    #[inline(always)]
+    fn string(&mut self, count: u64, word: usize, at: usize) -> usize {
+        let size = count as usize;
+        let start = self.head(strings::TYPE_BYTE, size, at);
+        let room = &mut self.output[start..start + size];
+        put_words(room, &self.data[word..]);
         start + size - at
     }
 
@@ -146,25 +143,37 @@ impl Emitting<'_> {
         at + 1 + sizes::fewest_bytes(size)
     }
 
-    /// Writes a STRUC or EDT. Its contents are at least as long as its rows
+    /// Writes a STRUC or EDT; no string is one. Its contents are at least as long as its rows
     /// are many, so they are put where they would begin if no longer, and moved
     /// on once if their size takes more bytes than that.
     #[inline(always)]
     fn container(&mut self, rows: &[Row], at: usize) -> (usize, usize) {
         let elements = beneath(rows).expect(JUDGED);
         let guess = at + 1 + sizes::fewest_bytes(elements.len());
-        let written = self.run(elements, guess);
-        let size = written.end - guess;
+        let end = self.run(elements, guess);
+        let size = end - guess;
         let type_byte = match rows[0][0] {
             kinds::EDT => 0xC3,
-            _ if written.all_chars => 0xC5,
             _ => 0xC2,
         };
         let start = at + 1 + sizes::fewest_bytes(size);
         if start != guess {
-            self.output.copy_within(guess..written.end, start);
+            self.output.copy_within(guess..end, start);
         }
         self.head(type_byte, size, at);
         (1 + elements.len(), start + size - at)
+    }
+}
+
+/// Fills the room with the bytes of words, the high byte first.
+#[inline(always)]
+fn put_words(room: &mut [u8], words: &[u64]) {
+    let (whole, rest) = room.as_chunks_mut::<8>();
+    let last = whole.len();
+    for (eight, word) in whole.iter_mut().zip(words) {
+        *eight = word.to_be_bytes();
+    }
+    if !rest.is_empty() {
+        rest.copy_from_slice(&words[last].to_be_bytes()[..rest.len()]);
     }
 }

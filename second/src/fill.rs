@@ -2,6 +2,7 @@
 
 use crate::classes::{class_of, Class};
 use crate::kinds::{self, Row};
+use crate::strings::{self, Packing};
 use crate::{answers::Fault, bits, copy, heads, integers, sizes, stretch};
 
 const SCANNED: &str = "the scan has passed these bytes";
@@ -109,8 +110,13 @@ impl Filling<'_> {
         let (elements, after) = match class {
             Class::Lbitstr => self.long_bits(object, start, *next),
             Class::Repeat => self.repeat(object, start, *next),
-            Class::String => self.string(&object[start..], *next),
+            Class::String => {
+                self.string(*next, |packing| packing.put(&object[start..], end - start))
+            }
             Class::Edt => self.structure(kinds::EDT, object, start, *next),
+            _ if is_string(class, object, start) => {
+                self.string(*next, |packing| packing.put_run(object, start))
+            }
             _ => self.structure(kinds::STRUC, object, start, *next),
         };
         *next = after;
@@ -127,10 +133,14 @@ impl Filling<'_> {
         (1, next)
     }
 
-    fn string(&mut self, characters: &[u8], mut next: Next) -> (u64, Next) {
-        let count = characters.len() as u64;
-        self.put_row([kinds::STRUC, count, count], &mut next);
-        self.stretch::<{ kinds::CHAR }>(characters, &mut next);
+    /// One row, and the characters that `put` puts into data words.
+    #[inline(always)]
+    fn string(&mut self, mut next: Next, put: impl FnOnce(&mut Packing)) -> (u64, Next) {
+        let mut packing = Packing::new(&mut self.data[next.word..]);
+        put(&mut packing);
+        let count = packing.count as u64;
+        self.put_row([kinds::STRING, count, next.word as u64], &mut next);
+        next.word += strings::words_for(count) as usize;
         (1, next)
     }
 
@@ -169,4 +179,12 @@ impl Filling<'_> {
         };
         (elements * count.value, end)
     }
+}
+
+/// Whether a STRUC or USTRUC is a string. A USTRUC's elements are all of one kind,
+/// so that a character at its beginning says so.
+#[inline(always)]
+fn is_string(class: Class, object: &[u8], start: usize) -> bool {
+    let begins_with_char = object.get(start).is_some_and(|&byte| byte < 0x80);
+    (class == Class::Ustruc && begins_with_char) || strings::are_chars(object, start)
 }

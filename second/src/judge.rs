@@ -5,7 +5,7 @@ use crate::answers::{
     NOT_WELL_FORMED,
 };
 use crate::kinds::{self, Row};
-use crate::{bits, deep, integers, sizes};
+use crate::{bits, deep, integers, sizes, strings};
 
 /// The parts of a table that its header agrees with.
 #[derive(Clone, Copy)]
@@ -64,6 +64,8 @@ fn measured(parts: &Parts) -> Result<usize, u64> {
 /// What a run of rows adds up to.
 struct Measure {
     elements: u64,
+    /// How many of the elements are CHARs.
+    chars: u64,
     length: usize,
 }
 
@@ -78,16 +80,22 @@ impl Judging<'_> {
     fn run(&mut self, rows: &[Row], inside: usize) -> Result<Measure, u64> {
         let mut sum = Measure {
             elements: 0,
+            chars: 0,
             length: 0,
         };
         let mut at = 0;
         while at < rows.len() {
             let rest = &rows[at..];
             let (count, taken, length) = match rest[0] {
-                [kinds::CHAR, 0, 0..=0x7F] => stretch::<{ kinds::CHAR }, 7>(rest),
+                [kinds::CHAR, 0, 0..=0x7F] => {
+                    let stretch = stretch::<{ kinds::CHAR }, 7>(rest);
+                    sum.chars += stretch.0;
+                    stretch
+                }
                 [kinds::INT, 0, 0..=0x3F] => stretch::<{ kinds::INT }, 6>(rest),
                 [kinds::INT, 0, value] => (1, 1, integers::fewest_bytes(value)),
                 [kinds::BITS, bits, word] => (1, 1, self.bits(bits, word)?),
+                [kinds::STRING, count, word] => (1, 1, self.string(count, word, inside)?),
                 [kinds::STRUC | kinds::EDT, ..] => self.container(rest, inside)?,
                 row if is_small_leaf(row) => (1, 1, 1),
                 _ => return Err(NOT_WELL_FORMED),
@@ -105,6 +113,16 @@ impl Judging<'_> {
         Ok(bits::fewest_bytes(bits))
     }
 
+    /// A string is a STRUC where they are counted one inside another.
+    #[inline(always)]
+    fn string(&mut self, count: u64, word: u64, inside: usize) -> Result<usize, u64> {
+        if inside == MOST_NESTED {
+            return Err(ITEMS_TOO_DEEP);
+        }
+        self.used = after_string(self.data, self.used, count, word).ok_or(NOT_WELL_FORMED)?;
+        Ok(strings::fewest_bytes(count))
+    }
+
     #[inline(always)]
     fn container(&mut self, rows: &[Row], inside: usize) -> Result<(u64, usize, usize), u64> {
         if inside == MOST_NESTED {
@@ -115,7 +133,11 @@ impl Judging<'_> {
         if contents.elements != rows[0][1] {
             return Err(NOT_WELL_FORMED);
         }
-        if rows[0][0] == kinds::EDT && !begins_edt(beneath) {
+        let agrees = match rows[0][0] {
+            kinds::EDT => begins_edt(beneath),
+            _ => contents.chars < contents.elements,
+        };
+        if !agrees {
             return Err(NOT_WELL_FORMED);
         }
         let size = contents.length;
@@ -150,7 +172,8 @@ fn is_small_leaf(row: Row) -> bool {
     )
 }
 
-/// Whether a row is a leaf's other than BITS, with nothing its kind forbids.
+/// Whether a row is one of a kind without data words and without rows beneath
+/// it, with nothing that its kind forbids.
 pub fn is_plain_leaf(row: Row) -> bool {
     matches!(row, [kinds::INT, 0, _] | [kinds::CHAR, 0, 0..=0x7F]) || is_small_leaf(row)
 }
@@ -169,6 +192,19 @@ pub fn after_bits(data: &[u64], used: usize, bits: u64, word: u64) -> Option<usi
     spare_is_zero.then_some(after)
 }
 
+/// The data words used after a string of so many characters that begins at
+/// `word`, `used` of them being used before. None if they are not there, it does
+/// not begin with the next one, a code has its high bit, or a spare byte is not 0.
+#[inline(always)]
+pub fn after_string(data: &[u64], used: usize, count: u64, word: u64) -> Option<usize> {
+    let words = strings::words_for(count);
+    if word != used as u64 || words > (data.len() - used) as u64 {
+        return None;
+    }
+    let after = used + words as usize;
+    strings::are_codes(&data[used..after], count).then_some(after)
+}
+
 /// The rows beneath the first of `rows`, as far as they are there.
 #[inline(always)]
 pub fn beneath(rows: &[Row]) -> Option<&[Row]> {
@@ -176,22 +212,11 @@ pub fn beneath(rows: &[Row]) -> Option<&[Row]> {
     rows[1..].get(..count)
 }
 
-/// Whether the elements of an EDT, whole items all, begin as they must.
+/// Whether the elements of an EDT, whole items all, begin as they must. The
+/// first is one row: an INT or a string.
 pub fn begins_edt(elements: &[Row]) -> bool {
-    let after_first = match elements.first() {
-        Some([kinds::INT, ..]) => &elements[1..],
-        Some([kinds::STRUC, ..]) => match after_string(elements) {
-            Some(after) => after,
-            None => return false,
-        },
-        _ => return false,
-    };
-    matches!(after_first.first(), Some([kinds::INT, ..]))
-}
-
-/// What follows the STRUC that comes first, if it is a string.
-fn after_string(elements: &[Row]) -> Option<&[Row]> {
-    let beneath = beneath(elements)?;
-    let is_string = beneath.iter().all(|row| row[0] == kinds::CHAR);
-    is_string.then(|| &elements[1 + beneath.len()..])
+    matches!(
+        elements,
+        [[kinds::INT | kinds::STRING, ..], [kinds::INT, ..], ..]
+    )
 }

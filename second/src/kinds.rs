@@ -8,6 +8,7 @@ pub const EMPTY: u64 = 5;
 pub const XTRA: u64 = 6;
 pub const STRUC: u64 = 7;
 pub const EDT: u64 = 8;
+pub const STRING: u64 = 9;
 
 /// One row of a table: kind, a, b.
 pub type Row = [u64; 3];
@@ -38,7 +39,7 @@ pub mod sets {
 
 /// What an EDT tells apart in its first two elements: an INT may be either, a
 /// string only the first, and nothing else may be one of them. That a STRUC is a
-/// string matters here and for its normal form, and nowhere else.
+/// string matters here, for its row and for its normal form.
 pub mod ranks {
     pub const NEITHER: u32 = 0;
     pub const STRING: u32 = 1;

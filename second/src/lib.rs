@@ -25,6 +25,7 @@ mod read;
 mod scan;
 mod sizes;
 mod stretch;
+mod strings;
 mod summary;
 mod write;
 

@@ -53,6 +53,7 @@ fn described(row: &Row, data: &[u64]) -> String {
         [kinds::EMPTY, ..] => "EMPTY".to_string(),
         [kinds::XTRA, _, code] => format!("XTRA {code}"),
         [kinds::STRUC, elements, _] => format!("STRUC {elements}"),
+        [kinds::STRING, count, word] => format!("STRING {count}{}", codes(count, word, data)),
         [_, elements, _] => format!("EDT {elements}"),
     }
 }
@@ -67,5 +68,16 @@ fn bits(count: u64, word: u64, data: &[u64]) -> String {
                 '0'
             }
         })
+        .collect()
+}
+
+/// The codes of a string, a space before each.
+fn codes(count: u64, word: u64, data: &[u64]) -> String {
+    let bytes = data[word as usize..]
+        .iter()
+        .flat_map(|word| word.to_be_bytes());
+    bytes
+        .take(count as usize)
+        .map(|code| format!(" {code}"))
         .collect()
 }

@@ -107,7 +107,7 @@ fn container(
     let contents = sizes::contents(bytes, at).map_err(|wanting| cut(at, inside, wanting))?;
     let end = contents.end;
     match class {
-        Class::String => sum.add_container(elements::STRING, contents.len() as u64, 0),
+        Class::String => sum.add_string(contents.len() as u64),
         Class::Repeat => repeat(sum, bytes, at, contents, inside)?,
         _ => structure(sum, class, bytes, at, contents, inside)?,
     }
@@ -139,12 +139,12 @@ fn structure(
     inside: usize,
 ) -> Result<(), Fault> {
     let within = run(&bytes[..contents.end], contents.start, inside + 1)?;
-    let element = match class {
+    match class {
         Class::Edt if !within.begins_edt() => return Err(Fault::new(BAD_EDT, at)),
         Class::Ustruc if !within.is_uniform() => return Err(Fault::new(SEVERAL_KINDS, at)),
-        Class::Edt => elements::EDT,
-        _ => within.as_struc(),
-    };
-    sum.add_container(element, within.rows(), within.data_words);
+        Class::Edt => sum.add_container(elements::EDT, &within),
+        _ if within.are_chars() => sum.add_string(within.elements),
+        _ => sum.add_container(elements::OTHER_STRUC, &within),
+    }
     Ok(())
 }

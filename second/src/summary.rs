@@ -1,6 +1,7 @@
 //! What a run of objects adds up to, repeats laid out.
 
 use crate::kinds::{elements, ranks, sets, Element};
+use crate::strings;
 
 /// A count that a repeat makes goes no higher. It is past every limit, and low
 /// enough that as many of them as a message has bytes add up within a word.
@@ -56,12 +57,19 @@ impl Summary {
         self.data_words += data_words;
     }
 
-    /// Adds one element with rows beneath it.
+    /// Adds a string of so many characters.
     #[inline(always)]
-    pub fn add_container(&mut self, element: Element, rows: u64, data_words: u64) {
+    pub fn add_string(&mut self, count: u64) {
+        self.add_leaves(elements::STRING, 1);
+        self.data_words += strings::words_for(count);
+    }
+
+    /// Adds one element with these beneath it.
+    #[inline(always)]
+    pub fn add_container(&mut self, element: Element, within: &Summary) {
         self.add_leaves(element, 1);
-        self.beneath += rows;
-        self.data_words += data_words;
+        self.beneath += within.rows();
+        self.data_words += within.data_words;
     }
 
     /// Adds a pattern's elements `count` times.
@@ -102,14 +110,10 @@ impl Summary {
         self.leading >> SECOND
     }
 
-    /// A STRUC with these elements, as an element itself.
+    /// Whether a STRUC with these elements is a string.
     #[inline(always)]
-    pub fn as_struc(&self) -> Element {
-        if self.kinds & !sets::CHAR == 0 {
-            elements::STRING
-        } else {
-            elements::OTHER_STRUC
-        }
+    pub fn are_chars(&self) -> bool {
+        self.kinds & !sets::CHAR == 0
     }
 
     /// Whether these elements are all of one kind, or there are none.
@@ -185,12 +189,20 @@ mod tests {
 
     #[test]
     fn a_struc_of_characters_is_a_string() {
-        let string = |run: Summary| run.as_struc().rank == ranks::STRING;
-        assert!(string(Summary::NOTHING));
-        assert!(string(run(&[elements::CHAR; 3])));
-        assert!(!string(run(&[elements::CHAR, elements::INT])));
-        assert!(!string(run(&[elements::STRING])));
-        assert_eq!(run(&[elements::INT]).as_struc().kind, sets::STRUC);
+        assert!(Summary::NOTHING.are_chars());
+        assert!(run(&[elements::CHAR; 3]).are_chars());
+        assert!(!run(&[elements::CHAR, elements::INT]).are_chars());
+        assert!(!run(&[elements::STRING]).are_chars());
+    }
+
+    /// One row, and a data word for every eight characters.
+    #[test]
+    fn a_string_is_one_row_and_its_words() {
+        for (count, words) in [(0, 0), (1, 1), (8, 1), (9, 2), (131_072, 16_384)] {
+            let mut sum = run(&[elements::INT]);
+            sum.add_string(count);
+            assert_eq!((sum.rows(), sum.data_words), (2, words), "{count}");
+        }
     }
 
     /// Both the run before a pattern and the pattern say which come first.
@@ -242,5 +254,7 @@ mod tests {
         let mut run = Summary::NOTHING;
         run.add_repeated(&pattern, 0);
         assert_eq!(run.rows(), 0);
+        run.add_string(CEILING);
+        assert!(run.data_words > 16_384);
     }
 }

@@ -100,6 +100,11 @@ int accepted_read(size_t length, size_t room, uint64_t words)
         && table_untouched(words);
 }
 
+int made_is_read(size_t words)
+{
+    return memcmp(table, made, words * sizeof *made) == 0;
+}
+
 /* Whether writing into so much of an output answers this, and every made word is as it was. */
 static int writes(size_t words, uint8_t *to, size_t room, uint64_t number, uint64_t length)
 {

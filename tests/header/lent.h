@@ -52,11 +52,15 @@ int refused_write(size_t words, size_t room, uint64_t number, uint64_t length);
  */
 int accepted_write(size_t words, size_t room, uint64_t length);
 
+/* Whether the table that was read is the made one, of so many words. */
+int made_is_read(size_t words);
+
 /* msdtp_meaning as another translation unit has it. */
 const char *meaning_elsewhere(uint64_t number);
 
-/* The checks of tables.c, of writing.c, of missing.c and of limits.c. */
+/* The checks of tables.c, of strings.c, of writing.c, of missing.c and of limits.c. */
 void check_tables(void);
+void check_strings(void);
 void check_writing(void);
 void check_missing(void);
 void check_limits(void);

@@ -28,6 +28,20 @@ static size_t make_bits(uint64_t bits)
     return MSDTP_HEADER_WORDS + MSDTP_ROW_WORDS + words;
 }
 
+/* The table of one string, of so many As. */
+static size_t make_string(uint64_t count)
+{
+    const uint64_t words = (count + 7) / 8;
+    uint64_t *data = made + MSDTP_HEADER_WORDS + MSDTP_ROW_WORDS;
+
+    make(1, 1, words, MSDTP_STRING, count, 0);
+    memset(data, 'A', words * sizeof *data);
+    if (count % 8 > 0) {
+        data[words - 1] <<= 64 - 8 * (count % 8);
+    }
+    return MSDTP_HEADER_WORDS + MSDTP_ROW_WORDS + words;
+}
+
 /* The table of so many EMPTYs. */
 static size_t make_empties(uint64_t rows)
 {
@@ -41,7 +55,7 @@ static size_t make_empties(uint64_t rows)
     return MSDTP_HEADER_WORDS + MSDTP_ROW_WORDS * rows;
 }
 
-/* The table of so many STRUCs, each inside the one before; the last is empty. */
+/* The table of so many STRUCs, each inside the one before; the last is "". */
 static size_t make_nest(uint64_t depth)
 {
     uint64_t row;
@@ -51,7 +65,7 @@ static size_t make_nest(uint64_t depth)
         uint64_t *at = made + MSDTP_HEADER_WORDS + MSDTP_ROW_WORDS * row;
         uint64_t beneath = depth - 1 - row;
 
-        at[0] = MSDTP_STRUC;
+        at[0] = beneath > 0 ? MSDTP_STRUC : MSDTP_STRING;
         at[1] = beneath > 0;
         at[2] = beneath;
     }
@@ -116,6 +130,61 @@ static void check_words_of_tables(void)
     check("a row more", refused_read(length, MSDTP_TABLE_WORDS, MSDTP_TOO_MANY, 0, 0));
 }
 
+/* The message of a string of so many As, in a repeat. */
+static size_t send_string(uint64_t count)
+{
+    const uint8_t bytes[] = {
+        0xC2, 0x07, 0xC4, 0x05,
+        0xE3, (uint8_t)(count >> 16), (uint8_t)(count >> 8), (uint8_t)count, 'A'
+    };
+
+    return send_bytes(bytes, sizeof bytes);
+}
+
+/*
+ * A string is one row and eight characters to a word: 131,072 characters fill
+ * the data words of a table, and 65,532 a normal form.
+ */
+static void check_long_strings(void)
+{
+    const uint64_t most = 131072, longest = 65532;
+
+    check("a string of all data words",
+          accepted_read(send_string(most), MSDTP_TABLE_WORDS, 7 + MSDTP_WORD_LIMIT)
+          && made_is_read(make_string(most)));
+    check("a string of a character more",
+          refused_read(send_string(most + 1), MSDTP_TABLE_WORDS, MSDTP_TOO_MANY, 0, 0));
+    check("a string of all data words, to write",
+          refused_write(make_string(most), MSDTP_OUTPUT_BYTES, MSDTP_NORMAL_LONG, 0));
+    check("a string of a character more, to write",
+          refused_write(make_string(most + 1), MSDTP_OUTPUT_BYTES, MSDTP_NOT_A_TABLE, 0));
+    check("the longest string of a normal form",
+          accepted_write(make_string(longest), MSDTP_OUTPUT_BYTES, MSDTP_OUTPUT_BYTES)
+          && memcmp(output, "\xC5\x82\xFF\xFC" "A", 5) == 0);
+    check("the longest string of a normal form and a character more",
+          refused_write(make_string(longest + 1), MSDTP_OUTPUT_BYTES, MSDTP_NORMAL_LONG, 0));
+}
+
+/*
+ * Strings and BITS share the data words: beside 65 bits 8,192 times, which take
+ * all, there may stand a string of none and no other.
+ */
+static void check_shared_words(void)
+{
+    static const uint8_t bytes[] = {
+        0xC2, 0x15, 0xC4, 0x10, 0xE2, 0x20, 0x00,
+        0xC1, 0x0B, 0xE1, 0x41, 0x55, 0x55, 0x55, 0x55, 0x55, 0x55, 0x55, 0x55, 0x80
+    };
+    const size_t length = send_bytes(bytes, sizeof bytes) + 3;
+
+    memcpy(message + sizeof bytes, "\xC5\x81\x00", 3);
+    check("a string of none beside all data words",
+          accepted_read(length, MSDTP_TABLE_WORDS, 4 + 3 * 8194 + MSDTP_WORD_LIMIT));
+    memcpy(message + sizeof bytes, "\xC5\x01" "A", 3);
+    check("a string of one beside all data words",
+          refused_read(length, MSDTP_TABLE_WORDS, MSDTP_TOO_MANY, 0, 0));
+}
+
 /* 8,191 full data words have a normal form of 65,536 bytes. */
 static void check_bytes_of_outputs(void)
 {
@@ -144,7 +213,7 @@ static void check_tables_to_write(void)
                                                         MSDTP_OUTPUT_BYTES, MSDTP_NOT_A_TABLE, 0));
 }
 
-/* The innermost STRUC of a made nest is "", of three bytes. */
+/* The innermost of a made nest, "", has three bytes. It counts as a STRUC. */
 static void check_depth(void)
 {
     const uint64_t depth = MSDTP_DEPTH_LIMIT, rows = depth + 1;
@@ -159,11 +228,43 @@ static void check_depth(void)
           refused_write(make_nest(depth + 1), MSDTP_OUTPUT_BYTES, MSDTP_TOO_NESTED, 0));
 }
 
+/* The last of a made nest, with a character and its data word. */
+static size_t make_deep_string(uint64_t depth, uint64_t word)
+{
+    const size_t words = make_nest(depth);
+
+    made[3] = 1;
+    made[words - 2] = 1;
+    made[words] = word;
+    return words + 1;
+}
+
+/* Too deep is said only of what is a table. */
+static void check_deep_strings(void)
+{
+    const uint64_t depth = MSDTP_DEPTH_LIMIT + 1;
+    size_t words = make_deep_string(depth - 1, UINT64_C(0x4100000000000000));
+
+    check("a string as deep as may be", accepted_write(words, MSDTP_OUTPUT_BYTES, 2 * depth - 1));
+    words = make_deep_string(depth, UINT64_C(0x4100000000000000));
+    check("a string too deep", refused_write(words, MSDTP_OUTPUT_BYTES, MSDTP_TOO_NESTED, 0));
+    words = make_deep_string(depth, UINT64_C(0x8000000000000000));
+    check("too deep, a code over 127", refused_write(words, MSDTP_OUTPUT_BYTES, MSDTP_NOT_A_TABLE, 0));
+    words = make_deep_string(depth, UINT64_C(0x4100000000000001));
+    check("too deep, a spare byte", refused_write(words, MSDTP_OUTPUT_BYTES, MSDTP_NOT_A_TABLE, 0));
+    words = make_nest(depth);
+    made[words - MSDTP_ROW_WORDS] = MSDTP_STRUC;
+    check("too deep, an empty STRUC", refused_write(words, MSDTP_OUTPUT_BYTES, MSDTP_NOT_A_TABLE, 0));
+}
+
 void check_limits(void)
 {
     check_bytes();
     check_words_of_tables();
+    check_long_strings();
+    check_shared_words();
     check_bytes_of_outputs();
     check_tables_to_write();
     check_depth();
+    check_deep_strings();
 }

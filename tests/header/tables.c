@@ -5,14 +5,14 @@
 #include "lent.h"
 
 #define ROW(r) (MSDTP_HEADER_WORDS + MSDTP_ROW_WORDS * (r))
-enum { ROWS = 18, DATA = ROW(ROWS), USED = DATA + 4 };
+enum { ROWS = 16, DATA = ROW(ROWS), USED = DATA + 5 };
 
 /*
  * Four outermost items: -129; a STRUC of BITS of none, 9, 64, 65 and no bits; an
  * EDT of "HI", 1, a STRUC of "" and EMPTY, TRUE and XTRA 3; CHAR 127.
  */
 static const uint64_t words_of_all[USED] = {
-    ROWS, 4, DATA, 4,
+    ROWS, 4, DATA, 5,
     MSDTP_INT, 0, (uint64_t)-129,
     MSDTP_STRUC, 5, 5,
     MSDTP_BITS, 0, 0,
@@ -20,19 +20,18 @@ static const uint64_t words_of_all[USED] = {
     MSDTP_BITS, 64, 1,
     MSDTP_BITS, 65, 2,
     MSDTP_BITS, 0, 4,
-    MSDTP_EDT, 5, 9,
-    MSDTP_STRUC, 2, 2,
-    MSDTP_CHAR, 0, 'H',
-    MSDTP_CHAR, 0, 'I',
+    MSDTP_EDT, 5, 7,
+    MSDTP_STRING, 2, 4,
     MSDTP_INT, 0, 1,
     MSDTP_STRUC, 2, 2,
-    MSDTP_STRUC, 0, 0,
+    MSDTP_STRING, 0, 5,
     MSDTP_EMPTY, 0, 0,
     MSDTP_BOOL, 0, 1,
     MSDTP_XTRA, 0, 3,
     MSDTP_CHAR, 0, 127,
     UINT64_C(0x2980000000000000), UINT64_C(0x0123456789ABCDEF),
-    UINT64_C(0xFFFFFFFFFFFFFFFF), UINT64_C(0x8000000000000000)
+    UINT64_C(0xFFFFFFFFFFFFFFFF), UINT64_C(0x8000000000000000),
+    UINT64_C(0x4849000000000000)
 };
 
 /* Their normal form. */
@@ -84,35 +83,43 @@ static void check_all_kinds(void)
 }
 
 /* Each change of one word makes the table of all kinds one that is not well formed. */
+static const struct {
+    const char *name;
+    size_t at;
+    uint64_t word;
+} changes[] = {
+    { "another number of rows", 0, ROWS - 1 },
+    { "another number of outermost items", 1, 3 },
+    { "another offset of the data", 2, 0 },
+    { "too few data words", 3, 4 },
+    { "a data word of no BITS and no string", 3, 6 },
+    { "kind 0", ROW(0), 0 },
+    { "kind 10", ROW(0), MSDTP_STRING + 1 },
+    { "INT with an a", ROW(0) + 1, 1 },
+    { "too few direct elements", ROW(1) + 1, 4 },
+    { "too few rows beneath", ROW(1) + 2, 4 },
+    { "BITS of no bits, another b", ROW(2) + 2, 1 },
+    { "later BITS of no bits, b 0", ROW(6) + 2, 0 },
+    { "b counted from the table's start", ROW(3) + 2, DATA },
+    { "a spare bit from a shorter BITS", ROW(3) + 1, 8 },
+    { "a spare bit at the end", DATA, UINT64_C(0x2980000000000001) },
+    { "CHAR 128", ROW(15) + 2, 128 },
+    { "BOOL 2", ROW(13) + 2, 2 },
+    { "EMPTY with a b", ROW(12) + 2, 1 },
+    { "XTRA 4", ROW(14) + 2, 4 },
+    { "EDT without a version", ROW(9), MSDTP_BOOL },
+    { "string, b counted from the table's start", ROW(8) + 2, DATA + 4 },
+    { "string, b of the BITS before it", ROW(8) + 2, 3 },
+    { "string of none, b 0", ROW(11) + 2, 0 },
+    { "a spare byte from a shorter string", ROW(8) + 1, 1 },
+    { "more characters than the word has", ROW(8) + 1, 9 },
+    { "as many characters as can be told", ROW(8) + 1, UINT64_MAX },
+    { "a spare byte at the end", DATA + 4, UINT64_C(0x4849000000000001) },
+    { "a code over 127", DATA + 4, UINT64_C(0x48C9000000000000) },
+};
+
 static void check_changes(void)
 {
-    static const struct {
-        const char *name;
-        size_t at;
-        uint64_t word;
-    } changes[] = {
-        { "another number of rows", 0, ROWS - 1 },
-        { "another number of outermost items", 1, 3 },
-        { "another offset of the data", 2, 0 },
-        { "too few data words", 3, 3 },
-        { "a data word of no BITS", 3, 5 },
-        { "kind 0", ROW(0), 0 },
-        { "kind 9", ROW(0), MSDTP_EDT + 1 },
-        { "INT with an a", ROW(0) + 1, 1 },
-        { "too few direct elements", ROW(1) + 1, 4 },
-        { "too few rows beneath", ROW(1) + 2, 4 },
-        { "BITS of no bits, another b", ROW(2) + 2, 1 },
-        { "later BITS of no bits, b 0", ROW(6) + 2, 0 },
-        { "b counted from the table's start", ROW(3) + 2, DATA },
-        { "a spare bit from a shorter BITS", ROW(3) + 1, 8 },
-        { "a spare bit at the end", DATA, UINT64_C(0x2980000000000001) },
-        { "CHAR 128", ROW(17) + 2, 128 },
-        { "BOOL 2", ROW(15) + 2, 2 },
-        { "EMPTY with a b", ROW(14) + 2, 1 },
-        { "XTRA 4", ROW(16) + 2, 4 },
-        { "EDT without a version", ROW(11), MSDTP_BOOL },
-        { "EDT without a string first", ROW(9), MSDTP_INT },
-    };
     size_t i;
 
     for (i = 0; i < sizeof changes / sizeof *changes; i++) {
@@ -137,8 +144,12 @@ static void check_kinds(void)
         { "BOOL", MSDTP_BOOL, 1, { 0xFC } },
         { "EMPTY", MSDTP_EMPTY, 1, { 0xFE } },
         { "XTRA", MSDTP_XTRA, 1, { 0xF8 } },
-        { "STRUC", MSDTP_STRUC, 3, { 0xC2, 0x81, 0x00 } },
+        { "STRUC", MSDTP_STRUC, 3, { 0xC2, 0x01, 0x80 } },
         { "EDT", MSDTP_EDT, 4, { 0xC3, 0x02, 0x8C, 0x81 } },
+        { "STRING", MSDTP_STRING, 3, { 0xC6, 0x01, 0x41 } },
+        { "STRING by a STRUC", MSDTP_STRING, 3, { 0xC2, 0x01, 0x41 } },
+        { "STRING by an empty STRUC", MSDTP_STRING, 3, { 0xC2, 0x81, 0x00 } },
+        { "STRUC by a USTRUC", MSDTP_STRUC, 4, { 0xC5, 0x02, 0x80, 0x81 } },
     };
     size_t i;
 

@@ -9,7 +9,7 @@ static const struct {
     const char *name;
     size_t words;
     uint64_t table[16];
-    uint8_t bytes[5];
+    uint8_t bytes[6];
 } tables[] = {
     { "in every room: no items", 4, { 0, 0, 4, 0 }, { 0 } },
     { "in every room: 10", 7, { 1, 1, 7, 0, MSDTP_INT, 0, 10 }, { 0x8A } },
@@ -21,6 +21,9 @@ static const struct {
     { "in every room: (1 2 3)", 16,
       { 4, 1, 16, 0, MSDTP_STRUC, 3, 3, MSDTP_INT, 0, 1, MSDTP_INT, 0, 2, MSDTP_INT, 0, 3 },
       { 0xC2, 0x03, 0x81, 0x82, 0x83 } },
+    { "in every room: seam", 8,
+      { 1, 1, 7, 1, MSDTP_STRING, 4, 0, UINT64_C(0x7365616D00000000) },
+      { 0xC5, 0x04, 's', 'e', 'a', 'm' } },
 };
 enum { TABLES = sizeof tables / sizeof *tables };
 
@@ -85,10 +88,10 @@ static int spoiled(size_t from)
 
 static void check_changed(void)
 {
-    check("length told, then the same table", changed(0, 0) && changed(3, 3) && changed(5, 5));
-    check("length told, then a longer one", changed(0, 1) && changed(1, 5) && changed(3, 4));
-    check("length told, then a shorter one", changed(1, 0) && changed(5, 1) && changed(4, 3));
-    check("length told, then no table", spoiled(0) && spoiled(3) && spoiled(5));
+    check("length told, then the same table", changed(0, 0) && changed(3, 3) && changed(6, 6));
+    check("length told, then a longer one", changed(0, 1) && changed(1, 5) && changed(3, 6));
+    check("length told, then a shorter one", changed(1, 0) && changed(5, 1) && changed(6, 3));
+    check("length told, then no table", spoiled(0) && spoiled(3) && spoiled(6));
 }
 
 /*

@@ -64,34 +64,29 @@ fn print_wait(refused: Refused, length: usize) {
 /// Prints an outermost item: a measure sheet line by line, a string as a note,
 /// and of anything else only that it is neither.
 fn print_item(row: Row, beneath: Rows) {
-    match (row, text(beneath.clone())) {
-        (Row::Edt { .. }, _) => print_edt(beneath),
-        (Row::Struc { .. }, Some(note)) => println!("note {note:?}"),
+    match row {
+        Row::Edt { .. } => print_edt(beneath),
+        Row::Text(note) => println!("note {note:?}"),
         _ => println!("no measure sheet: {row:?}"),
     }
 }
 
-/// The characters of these rows, if they are nothing else.
-fn text(rows: Rows) -> Option<String> {
-    let character = |row| match row {
-        Row::Char(code) => Some(char::from(code)),
-        _ => None,
-    };
-    rows.map(character).collect()
+/// Whether an EDT's first element is the type of a measure sheet.
+fn is_measure(first: Row) -> bool {
+    match first {
+        Row::Int(number) => number == TYPE_NUMBER,
+        Row::Text(name) => name == TYPE_NAME,
+        _ => false,
+    }
 }
 
 /// Prints an EDT by its elements: type, version, order number, unit, chest,
 /// waist and sleeve, if it is a measure sheet.
 fn print_edt(beneath: Rows) {
-    let elements: Vec<(Row, Rows)> = beneath.items().collect();
-    let rows: Vec<Row> = elements.iter().map(|(row, _)| *row).collect();
-    let typed = elements.first().is_some_and(|(row, beneath)| match row {
-        Row::Int(number) => *number == TYPE_NUMBER,
-        _ => text(beneath.clone()).is_some_and(|name| name == TYPE_NAME),
-    });
+    let rows: Vec<Row> = beneath.items().map(|(row, _)| row).collect();
     match rows[..] {
-        [_, Row::Int(1), Row::Int(order), Row::Xtra(unit @ 0..=1), chest, waist, sleeve]
-            if typed =>
+        [first, Row::Int(1), Row::Int(order), Row::Xtra(unit @ 0..=1), chest, waist, sleeve]
+            if is_measure(first) =>
         {
             println!("order {order}, in {}", UNITS[usize::from(unit)]);
             print_figure("chest", chest);

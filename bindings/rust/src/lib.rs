@@ -35,11 +35,13 @@ mod refused;
 mod rows;
 #[allow(unsafe_code)]
 pub mod sys;
+mod text;
 
 pub use bits::Bits;
 pub use operations::{normalise, read, write, Normalised, Read};
 pub use refused::Refused;
 pub use rows::{rows, Items, Row, Rows};
+pub use text::Text;
 
 /// The version of this crate and of the C header `msdtp.h`.
 pub const VERSION: &str = env!("CARGO_PKG_VERSION");
@@ -50,7 +52,8 @@ pub const BYTE_LIMIT: usize = 65_536;
 /// A table has at most so many rows.
 pub const ROW_LIMIT: usize = 16_384;
 
-/// A table has at most so many data words.
+/// A table has at most so many data words: 64 bits or eight characters each, so
+/// a string of 131,072 characters is the longest.
 pub const WORD_LIMIT: usize = 16_384;
 
 /// At most so many containers stand one inside another.

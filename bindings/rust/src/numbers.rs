@@ -43,18 +43,19 @@ pub const BAD_BITS: u64 = 6;
 /// REPEAT outermost, without an INT first, or with a negative one.
 pub const BAD_REPEAT: u64 = 7;
 /// USTRUC whose elements are not of one kind. The kinds are those of the table
-/// ([`kinds`](crate::kinds)), so a string and another STRUC are of one.
+/// ([`kinds`](crate::kinds)), but a string and another STRUC are of one.
 pub const SEVERAL_KINDS: u64 = 8;
 /// EDT whose first element is neither an INT nor a string, or whose second is
 /// no INT.
 pub const BAD_EDT: u64 = 9;
-/// Over [`ROW_LIMIT`](crate::ROW_LIMIT) or [`WORD_LIMIT`](crate::WORD_LIMIT).
+/// Over [`ROW_LIMIT`](crate::ROW_LIMIT) or [`WORD_LIMIT`](crate::WORD_LIMIT). A
+/// string counts as one row and its data words.
 pub const TOO_MANY: u64 = 10;
 /// The lent table is too short.
 pub const TABLE_SHORT: u64 = 11;
 /// The table to write is not well formed.
 pub const NOT_A_TABLE: u64 = 12;
-/// A STRUC or EDT inside sixteen others, in the table to write.
+/// A STRUC, string or EDT inside sixteen others, in the table to write.
 pub const TOO_NESTED: u64 = 13;
 /// The normal form is over [`BYTE_LIMIT`](crate::BYTE_LIMIT).
 pub const NORMAL_LONG: u64 = 14;

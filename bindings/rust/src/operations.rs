@@ -81,7 +81,7 @@ pub struct Normalised {
 ///     }
 /// }
 /// // Read three times: the size field was missing, then nine bytes, then none.
-/// assert_eq!((&waits[..], words), (&[1, 9][..], 28));
+/// assert_eq!((&waits[..], words), (&[1, 9][..], 14));
 /// # Ok::<(), Refused>(())
 /// ```
 pub fn read(message: &[u8], table: &mut [u64]) -> Result<Read, Refused> {

@@ -72,7 +72,7 @@ impl Refused {
             7 => "a repeat where none may stand, or without a proper count",
             8 => "a list that promises one kind and holds several",
             9 => "an EDT whose first two elements are not its type and its version",
-            10 => "more than 16,384 rows, or more than 16,384 words of bits",
+            10 => "more than 16,384 rows, or more than 16,384 words of bits and strings",
             11 => "the table that was lent is too short",
             12 => "what was given to write is no table of items",
             13 => "more than sixteen containers, one inside the other",

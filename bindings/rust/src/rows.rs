@@ -1,7 +1,8 @@
 //! A view of a table's rows that no words can make panic.
 
 use crate::bits::Bits;
-use crate::kinds::{BITS, BOOL, CHAR, EDT, EMPTY, INT, STRUC, XTRA};
+use crate::kinds::{BITS, BOOL, CHAR, EDT, EMPTY, INT, STRING, STRUC, XTRA};
+use crate::text::Text;
 use crate::{HEADER_WORDS, ROW_WORDS};
 use std::iter::FusedIterator;
 
@@ -10,12 +11,13 @@ use std::iter::FusedIterator;
 /// ```
 /// use msdtp::{read, rows, Row};
 ///
-/// let mut table = [0; 16];
-/// read(&[0x82, 0xFE, 0xFD, 0xC2, 0x81, 0x00], &mut table)?;
+/// let mut table = [0; 17];
+/// read(b"\x82\xFE\xFD\xC6\x04seam", &mut table)?;
 /// for row in rows(&table) {
 ///     match row {
 ///         Row::Int(figure) => assert_eq!(figure, 2),
 ///         Row::Empty => println!("stop and ask"),
+///         Row::Text(note) => assert_eq!(note, "seam"),
 ///         other => println!("no figure: {other:?}"),
 ///     }
 /// }
@@ -27,7 +29,7 @@ pub enum Row<'t> {
     Int(i64),
     /// A run of bits.
     Bits(Bits<'t>),
-    /// A character's code, 0 to 127.
+    /// The code, 0 to 127, of a character that stands outside strings.
     Char(u8),
     /// FALSE or TRUE.
     Bool(bool),
@@ -35,7 +37,7 @@ pub enum Row<'t> {
     Empty,
     /// A code of the caller's own, 0 to 3.
     Xtra(u8),
-    /// A structure; its elements are in the rows that follow.
+    /// A structure that is no string; its elements are in the rows that follow.
     Struc {
         /// Its direct elements.
         elements: usize,
@@ -50,6 +52,9 @@ pub enum Row<'t> {
         /// The rows beneath it, those of its elements' elements too.
         beneath: usize,
     },
+    /// A string: a structure of characters alone, or of nothing. It has no rows
+    /// beneath it.
+    Text(Text<'t>),
 }
 
 impl<'t> Row<'t> {
@@ -71,6 +76,7 @@ impl<'t> Row<'t> {
             (XTRA, 0, 0..=3) => Some(Row::Xtra(b as u8)),
             (STRUC, ..) => container().map(|(elements, beneath)| Row::Struc { elements, beneath }),
             (EDT, ..) => container().map(|(elements, beneath)| Row::Edt { elements, beneath }),
+            (STRING, ..) => Text::within(data, b, a).map(Row::Text),
             _ => None,
         }
     }
@@ -97,8 +103,8 @@ pub struct Rows<'t> {
 /// A table that reading filled gives exactly as many rows as its word 0 says.
 /// Any other words are safe to look at: without a header that fits them there
 /// are no rows, and the rows end before the first that cannot be one, by its
-/// kind, its code, bits that are not in the data, or rows beneath that are not
-/// in the table. Whether a table is well formed is told by
+/// kind, a code, bits or characters that are not in the data, or rows beneath
+/// that are not in the table. Whether a table is well formed is told by
 /// [`write`](crate::write), whatever output is lent, an empty one too: it then
 /// gives any answer but a refusal with 12. Words past the table's data are not
 /// looked at.

@@ -71,7 +71,7 @@ const NUMBERS: [(&str, u64); 16] = [
     ("OUTPUT_SHORT", numbers::OUTPUT_SHORT),
 ];
 
-const KINDS: [(&str, u64); 8] = [
+const KINDS: [(&str, u64); 9] = [
     ("INT", kinds::INT),
     ("BITS", kinds::BITS),
     ("CHAR", kinds::CHAR),
@@ -80,6 +80,7 @@ const KINDS: [(&str, u64); 8] = [
     ("XTRA", kinds::XTRA),
     ("STRUC", kinds::STRUC),
     ("EDT", kinds::EDT),
+    ("STRING", kinds::STRING),
 ];
 
 #[test]

@@ -16,7 +16,8 @@ fn each_kind() {
         0xE0, 0x80, 0, 0, 0, 0, 0, 0, 0, 0x41, 0xFC, 0xFD, 0xFE, 0xFB, // without elements
         0xC2, 0x02, 0x81, 0xFE, 0xC3, 0x05, 0x8C, 0x81, 0xC6, 0x01, 0x42, // with some
     ]);
-    let listed: Vec<Row> = rows(&table).collect();
+    let mut listed: Vec<Row> = rows(&table).collect();
+    assert!(matches!(listed.pop(), Some(Row::Text(text)) if text == "B"));
     let expected = [
         Row::Int(i64::MIN),
         Row::Char(65),
@@ -32,15 +33,10 @@ fn each_kind() {
         Row::Empty,
         Row::Edt {
             elements: 3,
-            beneath: 4,
+            beneath: 3,
         },
         Row::Int(12),
         Row::Int(1),
-        Row::Struc {
-            elements: 1,
-            beneath: 1,
-        },
-        Row::Char(66),
     ];
     assert_eq!(listed, expected);
 }
@@ -106,6 +102,9 @@ fn rows_at_the_edge_of_what_they_may_be() {
         [6, 0, 3],
         [7, 1, 1],
         [8, 0, 0],
+        [9, 0, 2],
+        [9, 8, 1],
+        [9, 16, 0],
     ];
     for row in good {
         assert_eq!(beginning_with(row), 2, "{row:?}");
@@ -132,7 +131,13 @@ fn rows_end_before_what_is_no_row() {
         [7, 1, 2],
         [7, most, most],
         [8, 2, 2],
-        [9, 0, 0],
+        [9, 0, 3],
+        [9, 9, 1],
+        [9, 17, 0],
+        [9, most, 0],
+        [9, 1, most],
+        [9, most, most],
+        [10, 0, 0],
         [most, most, most],
     ];
     for row in bad {
@@ -183,13 +188,14 @@ fn no_words_make_it_panic() {
         table.extend((1..words).map(|at| match (next(20), at % 3) {
             (0, _) => u64::MAX - next(200),
             (1, _) => next(200),
-            (_, 1) => 1 + next(8),
+            (_, 1) => 1 + next(9),
             (2..=12, 2) => 0,
             (2..=15, _) => next(2),
             _ => next(9),
         }));
         let listed = rows(&table).map(|row| match row {
             Row::Bits(bits) => bits.to_string().len(),
+            Row::Text(text) => text.to_string().len(),
             _ => 1,
         });
         seen += listed.sum::<usize>() + all_items(rows(&table));

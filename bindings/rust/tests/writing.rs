@@ -2,13 +2,13 @@
 
 mod tables;
 
-use msdtp::kinds::{BITS, BOOL, EMPTY, INT, STRUC};
+use msdtp::kinds::{BITS, BOOL, EMPTY, INT, STRING, STRUC};
 use msdtp::numbers::{NORMAL_LONG, NOT_A_TABLE, OUTPUT_SHORT, TOO_NESTED};
 use msdtp::{write, Refused, OUTPUT_BYTES};
 use tables::{table_of_bits, table_of_boxes};
 
 /// Tables with their normal forms. The one in place n has n bytes.
-const TABLES: [(&[u64], &[u8]); 6] = [
+const TABLES: [(&[u64], &[u8]); 7] = [
     (&[0, 0, 4, 0], &[]),
     (&[1, 1, 7, 0, INT, 0, 10], &[0x8A]),
     (&[2, 2, 10, 0, EMPTY, 0, 0, BOOL, 0, 1], &[0xFE, 0xFD]),
@@ -18,13 +18,17 @@ const TABLES: [(&[u64], &[u8]); 6] = [
         &[4, 1, 16, 0, STRUC, 3, 3, INT, 0, 1, INT, 0, 2, INT, 0, 3],
         &[0xC2, 0x03, 0x81, 0x82, 0x83],
     ),
+    (
+        &[1, 1, 7, 1, STRING, 4, 0, 0x7365_616D << 32],
+        b"\xC5\x04seam",
+    ),
 ];
 
 /// Tables that are refused whatever output is lent, with the number.
 fn refused_tables() -> [(Vec<u64>, u64); 4] {
     [
         (vec![], NOT_A_TABLE),
-        (vec![1, 1, 7, 0, 9, 0, 0], NOT_A_TABLE),
+        (vec![1, 1, 7, 0, 10, 0, 0], NOT_A_TABLE),
         (table_of_boxes(17), TOO_NESTED),
         (table_of_bits(8_192), NORMAL_LONG),
     ]
@@ -133,7 +137,15 @@ fn written_again(places: &[usize]) -> (Vec<u8>, usize) {
 
 #[test]
 fn changed_before_each_call() {
-    let cases: [&[usize]; 6] = [&[0], &[3, 3], &[1, 2, 5, 5], &[2, 5, 3], &[4, 0], &[5, 4]];
+    let cases: [&[usize]; 7] = [
+        &[0],
+        &[3, 3],
+        &[1, 2, 5, 5],
+        &[2, 5, 3],
+        &[4, 0],
+        &[5, 4],
+        &[5, 6, 6],
+    ];
     for places in cases {
         let last = places[places.len() - 1];
         let normal = TABLES[last].1.to_vec();

@@ -3,24 +3,37 @@ use Prim.Native.Nat.{ℕ, zero, suc, _+_, _-_, _*_, _≤_, _<_}
 use native.Mathlib.Omega.{arith}
 use native.Mathlib.Nat.{suc-mul, zero-mul, one-mul, add-mul, mul-le-mul-right}
 use mathlib.Core.Path.{_≡_, refl, sym, ap, _∙_}
-use mathlib.Core.List.{List, _++_, append-assoc, append-nil}
+use mathlib.Core.List.{List, [], _++_, append-assoc, append-nil}
 use lib.ListN.{length, take, length-append}
 use lib.Seq.{take-at, length-take-le}
 use Rattle.format.specs.Answers.{over}
 use Rattle.fill.specs.Copies.{again}
-use Rattle.fill.proofs.Over.{over-self, over-length, over-part, grown}
+use Rattle.fill.proofs.Over.{over-none, over-self, over-length, over-part, grown}
+
+pub at-least : (k r : ℕ) → 0 < k → r ≤ k * r
+at-least zero r h = absurd (omega arith)
+at-least (suc k) r h = omega (arith, suc-mul k r)
 
 pub again-length : (l : List ℕ) (r : ℕ) → length l ≡ r → (k : ℕ) → length (again k l) ≡ k * r
 unfolding again
 again-length l r e zero = sym (zero-mul r)
 again-length l r e (suc k) = omega (arith, length-append l (again k l), again-length l r e k, suc-mul k r)
 
-again-add : (j k : ℕ) (l : List ℕ) → again (j + k) l ≡ again j l ++ again k l
+pub again-add : (j k : ℕ) (l : List ℕ) → again (j + k) l ≡ again j l ++ again k l
 unfolding again
 again-add zero k l = let z : 0 + k ≡ k = omega arith in ap (λ n. again n l) z
 again-add (suc j) k l =
     let z : suc j + k ≡ suc (j + k) = omega arith in
     ap (λ n. again n l) z ∙ ap (λ z. l ++ z) (again-add j k l) ∙ sym (append-assoc l (again j l) (again k l))
+
+-- nothing, as many times
+pub again-none : (k : ℕ) → again k [] ≡ []
+unfolding again
+again-none zero = refl
+again-none (suc k) = again-none k
+
+pub none-there : (n k : ℕ) (t : List ℕ) → n ≡ 0 → t ≡ over (again k (take n t)) t
+none-there n k t e = rw e (sym (ap (λ l. over l t) (again-none k) ∙ over-none t))
 
 -- so many copies are there
 pub record Repeated (r k : ℕ) (t₀ t : List ℕ) (j : ℕ) : Type 0 where

@@ -6,7 +6,7 @@ use mathlib.Core.Path.{_≡_, refl, sym, ap, ap₂, _∙_}
 use mathlib.Core.Bool.{Bool}
 use mathlib.Core.List.{List, [], _∷_, _++_}
 use lib.ListN.{length, take, drop, getD, set, length-drop, take-append-drop}
-use lib.Seq.{take-take, take-nil, drop-nil, drop-drop, take-append-add, drop-append-add, length-take-le}
+use lib.Seq.{take-take, take-nil, drop-nil, take-append-add, drop-append-add, length-take-le}
 use lib.Pow.{pow-pos}
 use Rattle.format.specs.Numbers.{Bytes, val}
 use Rattle.format.specs.Bits.{bit, num, bitsOf, spread, adjusted, packed}
@@ -14,14 +14,14 @@ use Rattle.format.specs.Answers.{over}
 use Rattle.format.proofs.Choices.{split}
 use Rattle.format.proofs.Digits.{bytes-of, bytes-take}
 use Rattle.format.proofs.Parts.{drop-take, rest-part}
-use Rattle.format.proofs.BitLaws.{bits-length, spread-length, packed-length, adjusted-lt}
+use Rattle.format.proofs.BitLaws.{bits-length, spread-length, packed-length, packed-parts, adjusted-lt}
 use Rattle.format.proofs.Marker.{num-lt, num-append, num-spread, adjusted-num}
 use Rattle.wire.specs.WordsAt.{wordAt}
 use Rattle.wire.proofs.WordLaws.{high-bytes}
 use Rattle.fill.proofs.Over.{grown, set-word}
 
 -- ---- bits of some of the bytes
-spread-drop : (k : ℕ) (s : List ℕ) → drop (8 * k) (spread 8 s) ≡ spread 8 (drop k s)
+pub spread-drop : (k : ℕ) (s : List ℕ) → drop (8 * k) (spread 8 s) ≡ spread 8 (drop k s)
 unfolding spread
 spread-drop zero s = refl
 spread-drop (suc k) [] = drop-nil (8 * suc k)
@@ -29,7 +29,7 @@ spread-drop (suc k) (b ∷ s) =
     let e : 8 * suc k ≡ length (bitsOf 8 b) + 8 * k = omega (arith, bits-length 8 b) in
     ap (λ n. drop n (bitsOf 8 b ++ spread 8 s)) e ∙ drop-append-add (bitsOf 8 b) (spread 8 s) (8 * k) ∙ spread-drop k s
 
-spread-take : (k : ℕ) (s : List ℕ) → take (8 * k) (spread 8 s) ≡ spread 8 (take k s)
+pub spread-take : (k : ℕ) (s : List ℕ) → take (8 * k) (spread 8 s) ≡ spread 8 (take k s)
 unfolding spread
 spread-take zero s = refl
 spread-take (suc k) [] = take-nil (8 * suc k)
@@ -38,7 +38,7 @@ spread-take (suc k) (b ∷ s) =
     ap (λ n. take n (bitsOf 8 b ++ spread 8 s)) e ∙ take-append-add (bitsOf 8 b) (spread 8 s) (8 * k) ∙ ap (λ l. bitsOf 8 b ++ l) (spread-take k s)
 
 -- ---- a word of at most 64 bits
-adjusted-take : (w : ℕ) (bs : List Bool) → adjusted w (take w bs) ≡ adjusted w bs
+pub adjusted-take : (w : ℕ) (bs : List Bool) → adjusted w (take w bs) ≡ adjusted w bs
 unfolding adjusted
 adjusted-take zero bs = refl
 adjusted-take (suc w) [] = refl
@@ -88,11 +88,7 @@ full-word c v b j e =
 -- ---- word after word
 pub packed-more : (j : ℕ) (bs : List Bool) → packed 64 (j + 1) bs ≡ packed 64 j bs ++ (adjusted 64 (drop (64 * j) bs) ∷ [])
 unfolding packed
-packed-more zero bs = refl
-packed-more (suc j) bs =
-    let e : suc j + 1 ≡ suc (j + 1) = omega arith in
-    let f : 64 + 64 * j ≡ 64 * suc j = omega arith in
-    rw e (ap (λ l. adjusted 64 bs ∷ l) (packed-more j (drop 64 bs) ∙ ap (λ l. packed 64 j (drop 64 bs) ++ (adjusted 64 l ∷ [])) (drop-drop (64 * j) 64 bs ∙ ap (λ n. drop n bs) f)))
+packed-more j bs = packed-parts 64 j 1 bs
 
 -- the word that the code takes from the bytes behind those of the words before
 pub next-word : (c : List ℕ) (n j : ℕ)

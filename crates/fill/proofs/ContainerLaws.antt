@@ -1,20 +1,23 @@
 -- A container closes over its elements' rows and data words as its items say. Assumes nothing.
-use Prim.Native.Nat.{ℕ, zero, suc, _+_, _-_, _*_, _≤_, _<_}
+use Prim.Native.Nat.{ℕ, suc, _+_, _-_, _*_, _≤_, _<_}
 use native.Mathlib.Omega.{arith}
-use native.Mathlib.Nat.{suc-mul, one-mul}
+use native.Mathlib.Nat.{one-mul, mul-le-mul-left}
 use native.Mathlib.Numerals.{add-one}
 use mathlib.Core.Path.{_≡_, refl, sym, ap, ap₂, _∙_}
 use mathlib.Core.List.{List, [], _∷_, _++_, append-nil}
-use lib.ListN.{length, take, drop}
+use lib.ListN.{length, take, drop, length-append, length-drop}
+use lib.Seq.{take-take, take-at, drop-drop, length-take-le}
 use types.Run.{OneOf, miss}
 use denote.Enum.Declared.{tagOf}
-use Rattle.format.specs.Items.{Group, struc, edt, Items, end, group, times, uniform, edtRule}
-use Rattle.format.specs.Tables.{count, rows, dataWords, rowKind, rowWords}
+use mathlib.Core.Bool.{false}
+use Rattle.format.specs.Choice.{pick, both}
+use Rattle.format.specs.Items.{Group, struc, edt, Items, end, group, times, isString, uniform, edtRule}
+use Rattle.format.specs.Tables.{count, isText, rows, textWords, dataWords, boxKind, rowKind, groupB, rowWords}
 use Rattle.format.specs.Objects as O
 use Rattle.format.specs.Messages.{Outcome, refused, says, got, closing, around, object, reads}
 use Rattle.format.specs.Answers.{over}
-use Rattle.format.proofs.Choices.{byPick}
-use Rattle.format.proofs.Parts.{middle-part}
+use Rattle.format.proofs.Choices.{byPick, pick-no}
+use Rattle.format.proofs.Parts.{rest-part, middle-part}
 use Rattle.format.proofs.Steps.{objectAt}
 use Rattle.format.proofs.Counts.{words, times-zero, rows-times, count-times, words-times}
 use Rattle.format.proofs.TableLaws.{row-length}
@@ -23,11 +26,13 @@ use Rattle.wire.specs.declared.head.Wrap.{Wrap}
 use Rattle.wire.specs.declared.head.Wrap.the-variants.{Struc, Ustruc, Edt, Repeat}
 use Rattle.wire.specs.declared.head.Head.the-variants.{Open}
 use Rattle.wire.specs.Heads.{HeadIs, wrapOf}
-use Rattle.fill.specs.declared.rows.Filled.{Filled}
+use Rattle.fill.specs.declared.walk.Filled.{Filled}
 use Rattle.fill.specs.Copies.{copies, again}
-use Rattle.fill.specs.Containers.{copiesOf, ownWords, closed, closedPlaced, closedRows, Closable}
-use Rattle.fill.specs.Walks.{Fits, Laid, Kept}
-use Rattle.fill.proofs.Over.{over-front, over-over, lent, row-before}
+use Rattle.fill.specs.Containers.{copiesOf, ownWords, isStruc, textIn, closed, closedPlaced, closedTable, Closable, further}
+use Rattle.fill.specs.Walks.{Fits, Laid}
+use Rattle.fill.proofs.Over.{back, over-front, over-part, over-over, over-length, fronted}
+use Rattle.fill.proofs.AgainLaws.{at-least}
+use Rattle.fill.proofs.Regions.{front-over, back-over, back-in, back-out, front-lent, front-further, back-further, drop-front}
 use Rattle.fill.proofs.CopyLaws.{copies-length}
 use Rattle.fill.proofs.AgainLaws.{again-length}
 use Rattle.fill.proofs.RowLaws.{count-rows, rows-again, words-again}
@@ -69,27 +74,23 @@ opened d b s w a n ys u h e =
     let q = around-said w a n (reads (suc d) (take n (drop a s))) ys u (sym (ap (object (λ i m. reads (suc d) (O.contents s i m))) (h .0)) ∙ e) in
     record { xs = q .0; said = rw (middle-part s a n, add-one d) (q .1); closes = q .2; past = q .3 }
 
--- ---- how much it comes to
-pub at-least : (k r : ℕ) → 0 < k → r ≤ k * r
-at-least zero r h = absurd (omega arith)
-at-least (suc k) r h = omega (arith, suc-mul k r)
+-- ---- how much it comes to, where it is no string
+closed-rows : (w : Wrap) (xs : Items) → textIn w xs ≡ false → 3 * rows (closed w xs) ≡ ownWords w + 3 * (copiesOf w * rows xs)
+unfolding closed ownWords copiesOf rows textIn isStruc both isText
+closed-rows Struc xs t = let p = pick-no (isString xs) 0 (rows xs) t in omega (arith, one-mul (rows xs))
+closed-rows Ustruc xs t = let p = pick-no (isString xs) 0 (rows xs) t in omega (arith, one-mul (rows xs))
+closed-rows Edt xs t = let p : pick false 0 (rows xs) ≡ rows xs = pick-no false 0 (rows xs) refl in omega (arith, one-mul (rows xs))
+closed-rows (Repeat k) xs t = omega (arith, rows-times k xs)
 
-closed-rows : (w : Wrap) (xs : Items) → 3 * rows (closed w xs) ≡ ownWords w + 3 * (copiesOf w * rows xs)
-unfolding closed ownWords copiesOf rows
-closed-rows Struc xs = omega (arith, one-mul (rows xs))
-closed-rows Ustruc xs = omega (arith, one-mul (rows xs))
-closed-rows Edt xs = omega (arith, one-mul (rows xs))
-closed-rows (Repeat k) xs = omega (arith, rows-times k xs)
+closed-data : (w : Wrap) (xs : Items) → textIn w xs ≡ false → dataWords (closed w xs) ≡ again (copiesOf w) (dataWords xs)
+unfolding closed copiesOf dataWords again textIn isStruc both isText
+closed-data Struc xs t = ap (λ l. l ++ []) (pick-no (isString xs) (textWords xs) (dataWords xs) t)
+closed-data Ustruc xs t = ap (λ l. l ++ []) (pick-no (isString xs) (textWords xs) (dataWords xs) t)
+closed-data Edt xs t = ap (λ l. l ++ []) (pick-no false (textWords xs) (dataWords xs) refl)
+closed-data (Repeat k) xs t = words-again k xs
 
-pub closed-data : (w : Wrap) (xs : Items) → dataWords (closed w xs) ≡ again (copiesOf w) (dataWords xs)
-unfolding closed copiesOf dataWords again
-closed-data Struc xs = refl
-closed-data Ustruc xs = refl
-closed-data Edt xs = refl
-closed-data (Repeat k) xs = words-again k xs
-
-pub closed-words : (w : Wrap) (xs : Items) → words (closed w xs) ≡ copiesOf w * words xs
-closed-words w xs = ap length (closed-data w xs) ∙ again-length (dataWords xs) (words xs) refl (copiesOf w)
+closed-words : (w : Wrap) (xs : Items) → textIn w xs ≡ false → words (closed w xs) ≡ copiesOf w * words xs
+closed-words w xs t = ap length (closed-data w xs t) ∙ again-length (dataWords xs) (words xs) refl (copiesOf w)
 
 pub closed-none : (w : Wrap) (xs : Items) → copiesOf w ≡ 0 → closed w xs ≡ end
 unfolding closed copiesOf
@@ -98,74 +99,132 @@ closed-none Ustruc xs e = absurd (omega arith)
 closed-none Edt xs e = absurd (omega arith)
 closed-none (Repeat k) xs e = ap (λ n. times n xs) e ∙ times-zero xs
 
-pub fits-inside : (w : Wrap) (xs : Items) (base len : ℕ) → 0 < copiesOf w → Fits (closed w xs) base len → (ownWords w ≤ len) × Fits xs base (len - ownWords w)
-fits-inside w xs base len p f =
-    let a = closed-rows w xs in
-    let b = closed-words w xs in
+pub fits-inside : (w : Wrap) (xs : Items) (base gap len : ℕ) → 0 < copiesOf w → textIn w xs ≡ false → Fits (closed w xs) base gap len
+    → (ownWords w ≤ gap) × (gap + base ≤ len) × Fits xs base (gap - ownWords w) (len - ownWords w)
+fits-inside w xs base gap len p t f =
+    let a = closed-rows w xs t in
+    let b = closed-words w xs t in
     let c = at-least (copiesOf w) (rows xs) p in
     let d = at-least (copiesOf w) (words xs) p in
-    (omega arith, (omega arith, omega arith))
+    (omega arith, omega arith, (omega arith, omega arith, omega arith))
 
--- ---- the rows, closed
-pub closable : (w : Wrap) (xs : Items) (f : Filled) (base len : ℕ) → 0 < copiesOf w → Fits (closed w xs) base len
-    → f .rows ≡ rows xs → f .count ≡ count xs → f .words ≡ words xs → Closable w f len
-unfolding Closable closed copiesOf rows
-closable Struc xs f base len p g er ec ew = omega arith
-closable Ustruc xs f base len p g er ec ew = omega arith
-closable Edt xs f base len p g er ec ew = omega arith
-closable (Repeat k) xs f base len p g er ec ew =
-    let a = rows-times k xs in
-    let b = words-times k xs in
-    let c = count-times k xs in
-    let d = count-rows (times k xs) in
-    rw (er, ec, ew) (p, omega arith, omega arith, omega arith)
+pub closable : (w : Wrap) (xs : Items) (f : Filled) (base gap len : ℕ) → 0 < copiesOf w → textIn w xs ≡ false → Fits (closed w xs) base gap len
+    → f .rows ≡ rows xs → f .count ≡ count xs → f .words ≡ words xs → Closable w f (gap + base) len
+unfolding Closable copiesOf ownWords
+closable Struc xs f base gap len p t g er ec ew = let a = closed-rows Struc xs t in let o = one-mul (rows xs) in (omega arith, omega arith)
+closable Ustruc xs f base gap len p t g er ec ew = let a = closed-rows Ustruc xs t in let o = one-mul (rows xs) in (omega arith, omega arith)
+closable Edt xs f base gap len p t g er ec ew = let a = closed-rows Edt xs t in let o = one-mul (rows xs) in (omega arith, omega arith)
+closable (Repeat k) xs f base gap len p t g er ec ew =
+    let a = closed-rows (Repeat k) xs t in
+    let b = closed-words (Repeat k) xs t in
+    let c : k * count xs ≤ k * rows xs = mul-le-mul-left k (count-rows xs) in
+    rw (er, ec, ew) (p, omega arith, omega arith, omega arith, omega arith)
 
-module _ (xs : Items) (f : Filled) (base : ℕ) (t ys : List ℕ) (er : f .rows ≡ rows xs) (ec : f .count ≡ count xs) (ew : f .words ≡ words xs) where
-  -- the table, own words of it left free before the elements
+-- ---- closed
+module _ (xs : Items) (f : Filled) (base gap : ℕ) (t ys : List ℕ) (er : f .rows ≡ rows xs) (ec : f .count ≡ count xs) (ew : f .words ≡ words xs) where
+  -- the table as it comes back, own words of it left free before the elements
   abbrev pub filled : ℕ → List ℕ
   filled own = take own t ++ (ys ++ drop (length t - own) (drop own t))
 
-  abbrev LaidAs : Wrap → ℕ → Type 0
-  LaidAs w u =
-      Laid (closed w xs) base t (closedRows w f (filled (ownWords w))) (closedPlaced w f u .rows) (closedPlaced w f u .count) (closedPlaced w f u .words)
+  abbrev pub Inner-laid : ℕ → Type 0
+  Inner-laid own = Laid xs base (gap - own) (take (length t - own) (drop own t)) ys (f .rows) (f .count) (f .words)
 
-  pub group-laid : (g : Group) → 3 ≤ length t → ys ≡ over (rowWords base xs) (take (length t - 3) (drop 3 t))
-      → Laid (group g xs end) base t (over (rowKind g ∷ f .count ∷ f .rows ∷ []) (filled 3)) (f .rows + 1) 1 (f .words)
-  unfolding rows count dataWords rowWords
-  group-laid g h e =
+  -- what the elements are in either part of the table
+  module _ (own : ℕ) (h : own ≤ gap) (g : gap ≤ length t) (l : Inner-laid own) where
+    inner-front : take gap (filled own) ≡ over (take own (take gap t) ++ rowWords base xs) (take gap t)
+    inner-front = front-lent gap own t h g ys (rowWords base xs) (l .front-is)
+
+    inner-back : drop gap (filled own) ≡ over (take base (drop gap t) ++ dataWords xs) (drop gap t)
+    inner-back = back-out gap own t h g ys ∙ l .back-is ∙ ap (λ d. over (take base d ++ dataWords xs) d) (back-in gap own t h g)
+
+  pub group-laid : (g : Group) → isText g xs ≡ false → 3 ≤ gap → gap ≤ length t → Inner-laid 3
+      → Laid (group g xs end) base gap t (over (rowKind g xs ∷ f .count ∷ f .rows ∷ []) (filled 3)) (f .rows + 1) 1 (f .words)
+  unfolding rows count dataWords rowWords groupB
+  group-laid g q h k l =
+      let F : List ℕ = take gap t in
+      let lf : length F ≡ gap = length-take-le gap t k in
+      let row : List ℕ = rowKind g xs ∷ f .count ∷ f .rows ∷ [] in
+      let m : List ℕ = rowWords base xs in
+      let pr : pick (isText g xs) 0 (rows xs) ≡ rows xs = pick-no (isText g xs) 0 (rows xs) q in
+      let pd : pick (isText g xs) (textWords xs) (dataWords xs) ≡ dataWords xs = pick-no (isText g xs) (textWords xs) (dataWords xs) q in
+      let pb : pick (isText g xs) base (rows xs) ≡ rows xs = pick-no (isText g xs) base (rows xs) q in
+      let pm : pick (isText g xs) [] m ≡ m = pick-no (isText g xs) [] m q in
+      let wd : dataWords xs ≡ pick (isText g xs) (textWords xs) (dataWords xs) ++ [] = sym (append-nil _ ∙ pd) in
+      let rd : row ++ m ≡ rowKind g xs ∷ count xs ∷ pick (isText g xs) base (rows xs) ∷ (pick (isText g xs) [] m ++ []) =
+      ap₂ (λ a b. rowKind g xs ∷ a ∷ b ∷ m) ec (er ∙ sym pb) ∙ ap (λ z. rowKind g xs ∷ count xs ∷ pick (isText g xs) base (rows xs) ∷ z) (sym (append-nil _ ∙ pm)) in
       record {
         rows-are = omega arith;
         count-is = refl;
-        words-are = ew ∙ ap length (sym (append-nil (dataWords xs)));
-        table-is = row-before (rowKind g) (f .count) (f .rows) (rowWords base xs) t ys h e ∙ rw (ec, er, append-nil) refl;
+        words-are = ew ∙ ap length wd;
+        front-is = front-over gap row (filled 3) h ∙ ap (over row) (inner-front 3 h k l)
+            ∙ fronted (take 3 F) row m F (length-take-le 3 F (omega arith)) ∙ ap (λ z. over z F) rd;
+        back-is = back-over gap row (filled 3) h ∙ inner-back 3 h k l ∙ ap (λ z. over (take base (drop gap t) ++ z) (drop gap t)) wd;
       }
 
-  repeat-laid : (k : ℕ) → 0 < k → Fits (times k xs) base (length t) → ys ≡ over (rowWords base xs) (take (length t - 0) (drop 0 t)) → LaidAs (Repeat k) 0
-  unfolding closed closedRows closedPlaced ownWords
-  repeat-laid k p g e =
+  abbrev LaidAs : Wrap → ℕ → Type 0
+  LaidAs w u =
+      Laid (closed w xs) base gap t (closedTable w f (gap + base) (filled (ownWords w))) (closedPlaced w f u .rows) (closedPlaced w f u .count) (closedPlaced w f u .words)
+
+  same-long : (own : ℕ) → own ≤ length t → length ys ≡ length t - own → length (filled own) ≡ length t
+  same-long own h e = ap length (back own t ys) ∙ length-append (take own t) ys ∙ omega (arith, length-take-le own t h)
+
+  repeat-laid : (k u : ℕ) → 0 < k → Fits (times k xs) base gap (length t) → length ys ≡ length t - 0 → Inner-laid 0 → LaidAs (Repeat k) u
+  unfolding closed closedTable closedPlaced ownWords
+  repeat-laid k u p g ly l =
+      let F : List ℕ = take gap t in
+      let D : List ℕ = drop gap t in
+      let T : List ℕ = filled 0 in
       let m : List ℕ = rowWords base xs in
-      let c : List ℕ = copies (words xs) k m in
-      let le : 3 * rows xs ≤ 3 * (k * rows xs) = omega (arith, at-least k (rows xs) p) in
-      let lm : length m ≡ 3 * rows xs = row-length base xs in
-      let lc : length c ≡ 3 * (k * rows xs) = copies-length (words xs) (rows xs) k m lm in
-      let t₁ : filled 0 ≡ over m t = lent 0 m t ys (omega arith) e in
+      let dw : List ℕ = dataWords xs in
+      let at : ℕ = gap + base in
       let w = words-times k xs in
+      let r = rows-times k xs in
+      let a1 = at-least k (rows xs) p in
+      let a2 = at-least k (words xs) p in
+      let lm : length m ≡ 3 * rows xs = row-length base xs in
+      let lc : length (copies (words xs) k m) ≡ 3 * (k * rows xs) = copies-length (words xs) (rows xs) k m lm in
+      let lf : length F ≡ gap = length-take-le gap t (omega arith) in
+      let ld : length D ≡ length t - gap = length-drop gap t in
+      let lb : length (take base D) ≡ base = length-take-le base D (omega arith) in
+      let tf : take gap T ≡ over m F = inner-front 0 (omega arith) (omega arith) l in
+      let tb : drop gap T ≡ over (take base D ++ dw) D = inner-back 0 (omega arith) (omega arith) l in
+      let rows3 : take (3 * f .rows) T ≡ m =
+      ap (λ n. take (3 * n) T) er ∙ sym (take-take (3 * rows xs) gap T (omega arith)) ∙ ap (take (3 * rows xs)) tf ∙ over-front m F (3 * rows xs) (sym lm) in
+      let cp : List ℕ = copies (f .words) k (take (3 * f .rows) T) in
+      let cs : cp ≡ copies (words xs) k m = ap₂ (λ v z. copies v k z) ew rows3 in
+      let t₁ : List ℕ = over cp T in
+      let lcp : length cp ≤ gap = rw cs (omega arith) in
+      let lt : length T ≡ length t = same-long 0 (omega arith) ly in
+      let room : gap + base ≤ length t₁ = let z = over-length cp T (omega arith) in omega arith in
+      let ba : take base (over (take base D ++ dw) D) ≡ take base D =
+      over-part base (take base D ++ dw) D (omega (arith, length-append (take base D) dw)) ∙ take-at (take base D) dw base lb in
+      let bd : drop base (over (take base D ++ dw) D) ≡ dw ++ drop (length (take base D ++ dw)) D =
+      drop-front base (take base D) dw D lb in
+      let taken : take (f .words) (drop at T) ≡ dw =
+      ap₂ (λ n z. take n z) ew (sym (drop-drop base gap T) ∙ ap (drop base) tb ∙ bd) ∙ take-at dw _ (words xs) refl in
+      let ag : List ℕ = again k (take (f .words) (drop at T)) in
+      let agw : ag ≡ again k dw = ap (again k) taken in
+      let la : length (again k dw) ≡ k * words xs = again-length dw (words xs) refl k in
       record {
         rows-are = ap (λ n. k * n) er ∙ sym (rows-times k xs);
         count-is = ap (λ n. k * n) ec ∙ sym (count-times k xs);
         words-are = ap (λ n. k * n) ew ∙ sym w;
-        table-is =
-            rw (t₁, er, ew, over-front m t (3 * rows xs) (sym lm))
-            (over-over m c t (omega arith) ∙ ap (λ r. over r t) (sym (rows-again k base xs (omega arith))));
+        front-is = front-further gap base ag t₁ room ∙ front-over gap cp T lcp ∙ ap₂ over cs tf
+            ∙ over-over m (copies (words xs) k m) F (omega arith) ∙ ap (λ z. over z F) (sym (rows-again k base xs (omega arith)));
+        back-is = back-further gap base ag t₁ room
+            ∙ ap₂ (λ a d. over (take base d ++ a) d) agw (back-over gap cp T lcp ∙ tb)
+            ∙ ap (λ z. over (z ++ again k dw) (over (take base D ++ dw) D)) ba
+            ∙ over-over (take base D ++ dw) (take base D ++ again k dw) D (omega (arith, length-append (take base D) dw, length-append (take base D) (again k dw)))
+            ∙ ap (λ z. over (take base D ++ z) D) (sym (words-again k xs));
       }
 
-  pub closed-laid : (w : Wrap) (u : ℕ) → 0 < copiesOf w → Fits (closed w xs) base (length t)
-      → ys ≡ over (rowWords base xs) (take (length t - ownWords w) (drop (ownWords w) t)) → LaidAs w u
-  unfolding closed closedRows closedPlaced ownWords copiesOf rowKind rows
-  closed-laid Struc u p g e = group-laid struc (omega arith) e
-  closed-laid Ustruc u p g e = group-laid struc (omega arith) e
-  closed-laid Edt u p g e = group-laid edt (omega arith) e
-  closed-laid (Repeat k) u p g e = repeat-laid k p g e
+  pub closed-laid : (w : Wrap) (u : ℕ) → 0 < copiesOf w → textIn w xs ≡ false → Fits (closed w xs) base gap (length t)
+      → length ys ≡ length t - ownWords w → Inner-laid (ownWords w) → LaidAs w u
+  unfolding closed closedTable closedPlaced ownWords copiesOf rowKind boxKind isText textIn isStruc both pick
+  closed-laid Struc u p q g ly l = let k = fits-inside Struc xs base gap (length t) p q g in rw q at (group-laid struc q (k .0) (omega arith) l)
+  closed-laid Ustruc u p q g ly l = let k = fits-inside Ustruc xs base gap (length t) p q g in rw q at (group-laid struc q (k .0) (omega arith) l)
+  closed-laid Edt u p q g ly l = let k = fits-inside Edt xs base gap (length t) p q g in group-laid edt refl (k .0) (omega arith) l
+  closed-laid (Repeat k) u p q g ly l = repeat-laid k u p g ly l
 
 pub closed-past : (w : Wrap) (f : Filled) (u : ℕ) → closedPlaced w f u .past ≡ u
 unfolding closedPlaced
@@ -174,17 +233,15 @@ closed-past Ustruc f u = refl
 closed-past Edt f u = refl
 closed-past (Repeat k) f u = refl
 
--- ---- the data words, closed
-pub closed-kept : (w : Wrap) (xs : Items) (t t₁ t₂ : List ℕ) (k m : ℕ) → k ≡ copiesOf w → 0 < k → Kept xs t t₁ m
-    → t₂ ≡ over (again k (take m t₁)) t₁ → Kept (closed w xs) t t₂ (k * m)
-closed-kept w xs t t₁ t₂ k m ek p q e =
-    let d : List ℕ = dataWords xs in
-    let f : take m t₁ ≡ d = ap (take m) (q .table-is) ∙ over-front d t m (q .words-are) in
-    let la : length (again k d) ≡ k * words xs = again-length d (words xs) refl k in
-    let c : dataWords (closed w xs) ≡ again k d = closed-data w xs ∙ ap (λ n. again n d) (sym ek) in
-    record {
-      words-are = ap (λ n. k * n) (q .words-are) ∙ sym (ap length c ∙ la);
-      table-is =
-          e ∙ ap₂ (λ a b. over (again k a) b) f (q .table-is)
-          ∙ over-over d (again k d) t (omega (arith, at-least k (words xs) p)) ∙ ap (λ a. over a t) (sym c);
-    }
+-- ---- as the code copies: rows, and then data words in the part from `at` on
+pub copied-table : (at w r k : ℕ) (t t₁ ys : List ℕ) → 0 < k → 3 * (k * r) ≤ at → at ≤ length t → t₁ ≡ over (copies w k (take (3 * r) t)) t
+    → ys ≡ over (again k (take w (take (length t₁ - at) (drop at t₁)))) (take (length t₁ - at) (drop at t₁))
+    → take at t₁ ++ (ys ++ drop (length t₁ - at) (drop at t₁)) ≡ further at (again k (take w (drop at t))) (over (copies w k (take (3 * r) t)) t)
+unfolding further
+copied-table at w r k t t₁ ys p h g e q =
+    let cp : List ℕ = copies w k (take (3 * r) t) in
+    let l : length cp ≤ at = let m = at-least k r p in let z = copies-length w r k (take (3 * r) t) (length-take-le (3 * r) t (omega arith)) in omega arith in
+    let b : drop at t₁ ≡ drop at t = ap (drop at) e ∙ back-over at cp t l in
+    back at t₁ ys
+    ∙ ap₂ _++_ (ap (take at) e)
+    (q ∙ ap (λ z. over (again k (take w z)) z) (rest-part t₁ at) ∙ ap (λ z. over (again k (take w z)) (drop at t₁)) b ∙ ap (λ z. over (again k (take w (drop at t))) (drop at z)) e)

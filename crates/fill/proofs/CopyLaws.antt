@@ -1,11 +1,27 @@
 -- Rows moved on, and copied again and again. Assumes nothing.
-use Prim.Native.Nat.{ℕ, zero, suc, _+_, _*_}
+use Prim.Native.Nat.{ℕ, zero, suc, _+_, _*_, _%_, _^_}
 use native.Mathlib.Omega.{arith}
 use native.Mathlib.Nat.{suc-mul, zero-mul}
 use mathlib.Core.Path.{_≡_, refl, ap, _∙_}
+use mathlib.Core.Logic.{_≢_}
+use Rattle.format.specs.Choice.{pick, either}
+use Rattle.format.proofs.Choices.{eq-false}
 use mathlib.Core.List.{List, [], _∷_, _++_}
 use lib.ListN.{length, length-append}
-use Rattle.fill.specs.Copies.{shift, moved, copies}
+use Rattle.fill.specs.Copies.{placed, shift, moved, copies}
+
+-- ---- a row's last word, moved on
+pub shift-bits : (w k b : ℕ) → k ≡ 2 → (b + w) % 2 ^ 64 ≡ shift w k b
+unfolding shift placed pick either
+shift-bits w k b e = rw e refl
+
+pub shift-string : (w k b : ℕ) → k ≡ 9 → (b + w) % 2 ^ 64 ≡ shift w k b
+unfolding shift placed pick either
+shift-string w k b e = rw e refl
+
+pub shift-none : (w k b : ℕ) → k ≢ 2 → k ≢ 9 → b ≡ shift w k b
+unfolding shift placed pick either
+shift-none w k b p q = rw (eq-false k 2 p, eq-false k 9 q) refl
 
 pub moved-length : (w : ℕ) (l : List ℕ) → length (moved w l) ≡ length l
 unfolding moved

@@ -8,19 +8,20 @@ use mathlib.Core.List.{List, [], _∷_, _++_, append-assoc, append-nil}
 use lib.ListN.{length, take, drop, getD, set, length-append}
 use lib.Seq.{take-at, take-suc, getD-take, length-take-le}
 use Rattle.format.specs.Answers.{over}
-use Rattle.format.proofs.Choices.{byEq, ifEq-yes, ifEq-no}
-use Rattle.fill.specs.Copies.{shift, moved, copies}
+use mathlib.Core.Bool.{Bool, true, false}
+use Rattle.format.specs.Choice.{pick}
+use Rattle.fill.specs.Copies.{placed, shift, moved, copies}
 use Rattle.fill.proofs.Over.{over-self, over-length, over-part, grown, set-word, set-row}
 use Rattle.fill.proofs.CopyLaws.{moved-length, moved-append, copies-length, moved-copies}
 
 -- ---- moved on twice
 shift-shift : (a b k x : ℕ) → shift a k (shift b k x) ≡ shift (b + a) k x
-unfolding shift
-shift-shift a b k x =
-    let e : x + b + a ≡ x + (b + a) = omega arith in
-    byEq (λ y. shift a k y ≡ shift (b + a) k x) k 2
-    (λ q. ifEq-yes k 2 (((x + b) % 2 ^ 64 + a) % 2 ^ 64) ((x + b) % 2 ^ 64) q ∙ mod-add-mod (x + b) (2 ^ 64) a ∙ ap (λ n. n % 2 ^ 64) e ∙ sym (ifEq-yes k 2 ((x + (b + a)) % 2 ^ 64) x q))
-    (λ q. ifEq-no k 2 ((x + a) % 2 ^ 64) x q ∙ sym (ifEq-no k 2 ((x + (b + a)) % 2 ^ 64) x q))
+unfolding shift pick
+shift-shift a b k x = go (placed k)
+  where
+    go : (t : Bool) → pick t ((pick t ((x + b) % 2 ^ 64) x + a) % 2 ^ 64) (pick t ((x + b) % 2 ^ 64) x) ≡ pick t ((x + (b + a)) % 2 ^ 64) x
+    go true = let e : x + b + a ≡ x + (b + a) = omega arith in mod-add-mod (x + b) (2 ^ 64) a ∙ ap (λ n. n % 2 ^ 64) e
+    go false = refl
 
 pub moved-moved : (a b : ℕ) (l : List ℕ) → moved a (moved b l) ≡ moved (b + a) l
 unfolding moved

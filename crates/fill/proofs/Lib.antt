@@ -1,4 +1,5 @@
 pub mod Over
+pub mod Regions
 pub mod CopyLaws
 pub mod AgainLaws
 pub mod Doubling
@@ -8,9 +9,19 @@ pub mod RowLaws
 pub mod PlainLaws
 pub mod ContainerLaws
 pub mod BitWords
+pub mod Letters
+pub mod SomeCodes
+pub mod LowBytes
+pub mod Eights
+pub mod Cycles
 pub mod Stretches
 pub mod ShortLaws
-pub mod RowWalk
+pub mod StringLaws
+pub mod Spelling
+pub mod TextLaws
+pub mod TryLaws
+pub mod ObjectLaws
+pub mod WalkLaws
 pub mod ShortWalk
-pub mod WordWalk
 pub mod WholeLaws
+pub mod SbitsLaws

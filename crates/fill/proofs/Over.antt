@@ -65,6 +65,9 @@ part-length u t = rw (rest-part t u) (length-drop u t)
 pub back : (u : ℕ) (t ys : List ℕ) → take u t ++ (ys ++ drop (length t - u) (drop u t)) ≡ take u t ++ ys
 back u t ys = rw (drop-of-length-le (drop u t) {i = length t - u} (omega (arith, length-drop u t)), append-nil) refl
 
+pub still-long : (u : ℕ) (t ys : List ℕ) → u ≤ length t → length ys ≡ length (take (length t - u) (drop u t)) → length (take u t ++ (ys ++ drop (length t - u) (drop u t))) ≡ length t
+still-long u t ys h e = rw (back u t ys) (omega (arith, length-append (take u t) ys, length-take-le u t h, part-length u t))
+
 pub lent : (u : ℕ) (m t ys : List ℕ) → u ≤ length t → ys ≡ over m (take (length t - u) (drop u t))
     → take u t ++ (ys ++ drop (length t - u) (drop u t)) ≡ over (take u t ++ m) t
 unfolding over
@@ -76,12 +79,6 @@ lent u m t ys h e =
 
 pub still-three : (t z : List ℕ) → 3 ≤ length t → 3 ≤ length (take 3 t ++ z)
 still-three t z h = omega (arith, length-append (take 3 t) z, length-take-le 3 t h)
-
--- a row before the words of the part that was lent
-pub row-before : (a b c : ℕ) (m t ys : List ℕ) → 3 ≤ length t → ys ≡ over m (take (length t - 3) (drop 3 t))
-    → over (a ∷ b ∷ c ∷ []) (take 3 t ++ (ys ++ drop (length t - 3) (drop 3 t))) ≡ over (a ∷ b ∷ c ∷ m) t
-row-before a b c m t ys h e =
-    ap (over (a ∷ b ∷ c ∷ [])) (lent 3 m t ys h e) ∙ fronted (take 3 t) (a ∷ b ∷ c ∷ []) m t (length-take-le 3 t h)
 
 -- ---- stores
 pub set-word : (u : ℕ) (t : List ℕ) (v : ℕ) → u < length t → set t u v ≡ over (take u t ++ (v ∷ [])) t

@@ -1,24 +1,21 @@
 -- An object that is no container: its rows and its data words, by its head. Assumes nothing.
-use Prim.Native.Nat.{ℕ, suc, _+_, _-_, _*_, _/_, _%_, _≤_, _<_}
+use Prim.Native.Nat.{ℕ, suc, _+_, _-_, _/_, _≤_, _<_}
 use native.Mathlib.Omega.{arith}
-use native.Mathlib.Numerals.{add-one}
-use mathlib.Core.Path.{_≡_, refl, sym, ap, ap₂, _∙_, subst}
-use mathlib.Core.Logic.{_≢_}
+use mathlib.Core.Path.{_≡_, refl, sym, ap, _∙_, subst}
 use mathlib.Core.Bool.{Bool}
 use mathlib.Core.List.{List, [], _∷_, _++_, append-nil}
-use lib.ListN.{length, take, drop, getD, set, length-take, length-drop}
-use lib.Seq.{take-suc, length-take-le}
+use lib.ListN.{length, take, drop, length-take, length-drop}
+use lib.Seq.{length-take-le}
 use types.Run.{OneOf, miss}
 use denote.Enum.Declared.{tagOf}
 use Rattle.format.specs.Bits.{spread, packed, bytesFor, wordsFor}
-use Rattle.format.specs.Items.{Leaf, bits, struc, Items, end, group, one, leafKind}
-use Rattle.format.specs.Tables.{count, rows, leafWords, dataWords, leafA, leafB, rowKind, rowWords}
+use Rattle.format.specs.Items.{Leaf, bits, Items, end, one, leafKind}
+use Rattle.format.specs.Tables.{count, rows, inWords, leafWords, dataWords, leafA, leafB, rowWords}
 use Rattle.format.specs.Answers.{over}
 use Rattle.format.specs.Objects as O
 use Rattle.format.specs.Messages.{Outcome, bad, got, object, reads}
 use Rattle.format.specs.declared.Class.the-variants as C
 use Rattle.format.proofs.Choices.{split}
-use Rattle.format.proofs.Parts.{middle-part}
 use Rattle.format.proofs.Steps.{objectAt}
 use Rattle.format.proofs.BitLaws.{packed-length, spread-length}
 use Rattle.wire.proofs.head.Head.{the-type}
@@ -26,64 +23,7 @@ use Rattle.wire.specs.declared.head.Head.{Head}
 use Rattle.wire.specs.declared.head.Head.the-variants.{Stop, Gap, Row, Short, Long, Text, Open}
 use Rattle.wire.specs.Heads.{HeadIs, IsRow, IsShort, bitsFrom}
 use Rattle.wire.proofs.HeadLaws.{by-class, padding-gap}
-use Rattle.fill.specs.Plain.{Apt, charRows, plainRows, plainWords, placedAs, plainPlaced, plainStored}
-use Rattle.fill.proofs.Over.{grown, row-before, set-row}
-
--- ---- a string's characters
-pub char-rows : (base : ℕ) (s : List ℕ) → rowWords base (O.characters s) ≡ charRows s
-unfolding O.characters rowWords charRows leafKind leafA leafB leafWords
-char-rows base [] = refl
-char-rows base (b ∷ s) = let e : base + 0 ≡ base = omega arith in ap (λ r. 3 ∷ 0 ∷ b % 128 ∷ r) (rw e (char-rows base s))
-
-pub chars-rows : (s : List ℕ) → rows (O.characters s) ≡ length s
-unfolding O.characters rows
-chars-rows [] = refl
-chars-rows (b ∷ s) = ap suc (chars-rows s)
-
-pub chars-count : (s : List ℕ) → count (O.characters s) ≡ length s
-unfolding O.characters count
-chars-count [] = refl
-chars-count (b ∷ s) = ap suc (chars-count s)
-
-pub chars-words : (s : List ℕ) → dataWords (O.characters s) ≡ []
-unfolding O.characters dataWords leafWords
-chars-words [] = refl
-chars-words (b ∷ s) = chars-words s
-
-pub chars-length : (s : List ℕ) → length (charRows s) ≡ 3 * length s
-unfolding charRows
-chars-length [] = refl
-chars-length (b ∷ s) = omega (arith, chars-length s)
-
-chars-append : (s t : List ℕ) → charRows (s ++ t) ≡ charRows s ++ charRows t
-unfolding charRows
-chars-append [] t = refl
-chars-append (b ∷ s) t = ap (λ r. 3 ∷ 0 ∷ b % 128 ∷ r) (chars-append s t)
-
--- one character more
-pub chars-more : (s : List ℕ) (i : ℕ) → i < length s → charRows (take (i + 1) s) ≡ charRows (take i s) ++ (3 ∷ 0 ∷ getD s i 0 % 128 ∷ [])
-chars-more s i h =
-    ap charRows (ap (λ n. take n s) (add-one i) ∙ take-suc s i 0 h) ∙ chars-append (take i s) (getD s i 0 ∷ []) ∙ (unfold charRows in refl)
-
--- one turn of the loop over characters
-pub char-turn : (s t₀ t : List ℕ) (i : ℕ) → i < length s → 3 * length s ≤ length t₀ → length t ≡ length t₀ → t ≡ over (charRows (take i s)) t₀
-    → set (set (set t (3 * i) 3) (3 * i + 1) 0) (3 * i + 2) (getD s i 0 % 128) ≡ over (charRows (take (i + 1) s)) t₀
-char-turn s t₀ t i h room l e =
-    let n : 3 * i ≡ length (charRows (take i s)) = omega (arith, chars-length (take i s), length-take-le i s (omega arith)) in
-    set-row (3 * i) t 3 0 (getD s i 0 % 128) (omega arith)
-    ∙ grown (charRows (take i s)) (3 ∷ 0 ∷ getD s i 0 % 128 ∷ []) t₀ t (3 * i) e n
-    ∙ ap (λ r. over r t₀) (sym (chars-more s i h))
-
--- a string's row, and its characters in the part behind it
-pub text-rows : (s : List ℕ) (a n : ℕ) (t ys : List ℕ) → 3 ≤ length t → ys ≡ over (charRows (take (a + n - a) (drop a s))) (take (length t - 3) (drop 3 t))
-    → over (7 ∷ n ∷ n ∷ []) (take 3 t ++ (ys ++ drop (length t - 3) (drop 3 t))) ≡ over (7 ∷ n ∷ n ∷ charRows (take n (drop a s))) t
-text-rows s a n t ys h e =
-    row-before 7 n n (charRows (take (a + n - a) (drop a s))) t ys h e ∙ ap (λ c. over (7 ∷ n ∷ n ∷ charRows c) t) (middle-part s a n)
-
-pub text-room : (s : List ℕ) (a n len : ℕ) → a + n ≤ length s → length (7 ∷ n ∷ n ∷ charRows (take n (drop a s))) ≤ len → 3 + 3 * n ≤ len
-text-room s a n len h g =
-    let l : length (take n (drop a s)) ≡ n = simp (length-take, length-drop) (omega arith) in
-    omega (arith, chars-length (take n (drop a s)))
+use Rattle.fill.specs.Plain.{Apt, plainRows, plainWords, placedAs, plainPlaced}
 
 -- ---- what a head has shown: the items xs, and u bytes past the type-byte
 pub record Shown (s : List ℕ) (h : Head) (xs : Items) (u : ℕ) : Type 0 where
@@ -108,7 +48,7 @@ shown-row s l k v u r =
 -- a BITS, whose words are w
 shown-bits : (s : List ℕ) (h : Head) (bs : List Bool) (n u : ℕ) → length bs ≡ n → plainWords s h ≡ packed 64 (wordsFor n) bs
     → ((base : ℕ) → plainRows s base h ≡ 2 ∷ n ∷ base ∷ []) → plainPlaced h ≡ placedAs 1 1 (wordsFor n) u → Shown s h (one (bits bs)) u
-unfolding rowWords dataWords rows count leafKind leafA leafB leafWords
+unfolding rowWords dataWords rows count leafKind leafA leafB leafWords inWords
 shown-bits s h bs n u e w r p =
     let d : packed 64 (wordsFor (length bs)) bs ++ [] ≡ packed 64 (wordsFor n) bs = append-nil (packed 64 (wordsFor (length bs)) bs) ∙ ap (λ m. packed 64 (wordsFor m) bs) e in
     record {
@@ -131,23 +71,10 @@ long-length s a n h =
     let l : length (take ((n + 7) / 8) (drop a s)) ≡ (n + 7) / 8 = simp (length-take, length-drop) (omega arith) in
     length-take-le n _ (omega (arith, spread-length 8 (take ((n + 7) / 8) (drop a s))))
 
-shown-text : (s : List ℕ) (a n : ℕ) → a + n ≤ length s → Shown s (Text a n) (group struc (O.characters (O.contents s a n)) end) (a + n)
-unfolding O.contents rowWords plainRows dataWords plainWords plainPlaced rows count rowKind
-shown-text s a n h =
-    let c = take n (drop a s) in
-    let l : length c ≡ n = simp (length-take, length-drop) (omega arith) in
-    let d : dataWords (O.characters c) ++ [] ≡ [] = append-nil (dataWords (O.characters c)) ∙ chars-words c in
-    let r : n + 1 ≡ suc (rows (O.characters c) + 0) = omega (arith, chars-rows c) in
-    record {
-      rows-are = λ base. rw (append-nil, chars-count c, chars-rows c, l, char-rows base c) refl;
-      words-are = d;
-      placed-is = ap₂ (λ m k. placedAs m 1 k (a + n)) r (sym (ap length d));
-    }
-
 -- ---- by the code's head
--- the places in the enum of all but the container
+-- the places in the enum of all but the string and the container
 abbrev pub plain-tags : List ℕ
-plain-tags = 0 ∷ 1 ∷ 2 ∷ 3 ∷ 4 ∷ 5 ∷ []
+plain-tags = 0 ∷ 1 ∷ 2 ∷ 3 ∷ 4 ∷ []
 
 pub head-apt : (s : List ℕ) (h : Head) (m : O.Head) → HeadIs s h m → Apt s h
 unfolding Apt
@@ -156,7 +83,7 @@ head-apt s Gap m e = tt
 head-apt s (Row k v u) m e = tt
 head-apt s (Short n w u) m e = e .2 .few
 head-apt s (Long a n u) m e = (e .1, e .2)
-head-apt s (Text a n) m e = e .1
+head-apt s (Text a n) m e = tt
 head-apt s (Open w a n) m e = tt
 
 module _ (s : List ℕ) (inside : ℕ → ℕ → Outcome) (xs : Items) (u : ℕ) where
@@ -182,7 +109,7 @@ module _ (s : List ℕ) (inside : ℕ → ℕ → Outcome) (xs : Items) (u : ℕ
   plain-shown (Long a n v) m t e f =
       given (Long a n v) m (one (bits (bitsFrom s a n))) v (e .0) f
       (let b = e .1 in let c = e .2 in shown-bits s (Long a n v) (bitsFrom s a n) n v (long-length s a n (omega arith)) refl (λ base. refl) refl)
-  plain-shown (Text a n) m t e f = given (Text a n) m (group struc (O.characters (O.contents s a n)) end) (a + n) (e .0) f (shown-text s a n (e .1))
+  plain-shown (Text a n) m t e f = absurd (miss plain-tags 5 tt t)
   plain-shown (Open w a n) m t e f = absurd (miss plain-tags 6 tt t)
 
 pub object-shown : (d b : ℕ) (s : List ℕ) (xs : Items) (u : ℕ) → objectAt d b s ≡ got xs u → (h : Head) → OneOf plain-tags (tagOf the-type h) → HeadIs s h (O.headOf d b s)
@@ -190,26 +117,35 @@ pub object-shown : (d b : ℕ) (s : List ℕ) (xs : Items) (u : ℕ) → objectA
 unfolding objectAt
 object-shown d b s xs u f h t e = plain-shown s (λ i n. reads (suc d) (O.contents s i n)) xs u h (O.headOf d b s) t e f
 
--- a head that writes nothing, by its place in the enum
-pub idle : (s : List ℕ) (h : Head) → OneOf (0 ∷ 1 ∷ 6 ∷ []) (tagOf the-type h)
-    → (plainPlaced h ≡ placedAs 0 0 0 0) × ((base : ℕ) → plainRows s base h ≡ []) × (plainWords s h ≡ [])
-unfolding plainPlaced plainRows plainWords
-idle s (Stop f) t = (refl, λ base. refl, refl)
-idle s Gap t = (refl, λ base. refl, refl)
-idle s (Row k v u) t = absurd (miss (0 ∷ 1 ∷ 6 ∷ []) 2 tt t)
-idle s (Short n w u) t = absurd (miss (0 ∷ 1 ∷ 6 ∷ []) 3 tt t)
-idle s (Long a n u) t = absurd (miss (0 ∷ 1 ∷ 6 ∷ []) 4 tt t)
-idle s (Text a n) t = absurd (miss (0 ∷ 1 ∷ 6 ∷ []) 5 tt t)
-idle s (Open w a n) t = (refl, λ base. refl, refl)
+-- a head that writes no row, or no data words, by its place in the enum
+pub no-rows : (s : List ℕ) (h : Head) → OneOf (0 ∷ 1 ∷ 5 ∷ 6 ∷ []) (tagOf the-type h) → (plainPlaced h ≡ placedAs 0 0 0 0) × ((base : ℕ) → plainRows s base h ≡ [])
+unfolding plainPlaced plainRows
+no-rows s (Stop f) t = (refl, λ base. refl)
+no-rows s Gap t = (refl, λ base. refl)
+no-rows s (Row k v u) t = absurd (miss (0 ∷ 1 ∷ 5 ∷ 6 ∷ []) 2 tt t)
+no-rows s (Short n w u) t = absurd (miss (0 ∷ 1 ∷ 5 ∷ 6 ∷ []) 3 tt t)
+no-rows s (Long a n u) t = absurd (miss (0 ∷ 1 ∷ 5 ∷ 6 ∷ []) 4 tt t)
+no-rows s (Text a n) t = (refl, λ base. refl)
+no-rows s (Open w a n) t = (refl, λ base. refl)
+
+pub no-words : (s : List ℕ) (h : Head) → OneOf (0 ∷ 1 ∷ 2 ∷ 5 ∷ 6 ∷ []) (tagOf the-type h) → plainWords s h ≡ []
+unfolding plainWords
+no-words s (Stop f) t = refl
+no-words s Gap t = refl
+no-words s (Row k v u) t = refl
+no-words s (Short n w u) t = absurd (miss (0 ∷ 1 ∷ 2 ∷ 5 ∷ 6 ∷ []) 3 tt t)
+no-words s (Long a n u) t = absurd (miss (0 ∷ 1 ∷ 2 ∷ 5 ∷ 6 ∷ []) 4 tt t)
+no-words s (Text a n) t = refl
+no-words s (Open w a n) t = refl
 
 -- ---- the data words of a short BITS, none or one
-pub short-none : (s : List ℕ) (n w u : ℕ) → n ≡ 0 → (plainStored (Short n w u) ≡ record { words = 0; past = u }) × (plainWords s (Short n w u) ≡ [])
-unfolding plainStored plainPlaced plainWords wordsFor
-short-none s n w u e = rw e (refl, refl)
+pub short-none : (s : List ℕ) (n w u : ℕ) → n ≡ 0 → plainWords s (Short n w u) ≡ []
+unfolding plainWords wordsFor
+short-none s n w u e = rw e refl
 
-pub short-one : (s : List ℕ) (n w u : ℕ) → n ≢ 0 → n ≤ 63 → (plainStored (Short n w u) ≡ record { words = 1; past = u }) × (plainWords s (Short n w u) ≡ w ∷ [])
-unfolding plainStored plainPlaced plainWords wordsFor
-short-one s n w u z h = let e : (n + 63) / 64 ≡ 1 = omega arith in rw e (refl, refl)
+pub short-one : (s : List ℕ) (n w u : ℕ) → 0 < n → n ≤ 63 → plainWords s (Short n w u) ≡ w ∷ []
+unfolding plainWords wordsFor
+short-one s n w u z h = let e : (n + 63) / 64 ≡ 1 = omega arith in rw e refl
 
 -- of a long one, as the code lends its bytes
 pub long-words : (s : List ℕ) (a n u : ℕ) (t : List ℕ) → a + bytesFor n ≡ u

@@ -1,14 +1,15 @@
--- One row without data words, stored again and again: every row so far is the first. Assumes nothing.
-use Prim.Native.Nat.{ℕ, _+_, _*_, _^_, _≤_, _<_}
+-- Rows without data words: one of them stored again and again, every row so far being the first, and any copied as plain words.
+-- Assumes nothing.
+use Prim.Native.Nat.{ℕ, zero, suc, _+_, _*_, _^_, _≤_, _<_}
 use native.Mathlib.Omega.{arith}
 use native.Mathlib.Nat.{mod-eq-of-lt, mul-zero, mul-one}
 use mathlib.Core.Path.{_≡_, refl, sym, ap, ap₂, _∙_}
 use mathlib.Core.List.{List, [], _∷_, _++_}
 use lib.ListN.{length, take, getD, set}
 use lib.Seq.{length-take-le}
-use Rattle.format.proofs.Choices.{byEq}
+use Rattle.format.proofs.Choices.{byPick}
 use Rattle.format.specs.Answers.{over}
-use Rattle.fill.specs.Copies.{shift, moved, copies}
+use Rattle.fill.specs.Copies.{placed, shift, moved, copies, again}
 use Rattle.fill.proofs.Over.{over-length, grown, set-row}
 use Rattle.fill.proofs.CopyLaws.{copies-length}
 use Rattle.fill.proofs.Doubling.{copies-add, Doubled, doubled-start}
@@ -18,7 +19,7 @@ stays : (k b : ℕ) → b < 2 ^ 64 → shift 0 k b ≡ b
 unfolding shift
 stays k b h =
     let z : b + 0 ≡ b = omega arith in
-    byEq (λ (x : ℕ). x ≡ b) k 2 (λ e. rw z (mod-eq-of-lt h)) (λ n. refl)
+    byPick (λ (x : ℕ). x ≡ b) (placed k) (λ t. rw z (mod-eq-of-lt h)) (λ t. refl)
 
 -- the first row, once more
 row-again : (j : ℕ) (t : List ℕ) → 3 ≤ length t → getD t 2 0 < 2 ^ 64 → moved (j * 0) (copies 0 1 (take (3 * 1) t)) ≡ getD t 0 0 ∷ getD t 1 0 ∷ getD t 2 0 ∷ []
@@ -71,3 +72,31 @@ one-room r k n e h = rw e at h
 
 pub one-goal : (w r k : ℕ) (t u : List ℕ) → r ≡ 1 → w ≡ 0 → u ≡ over (copies 0 k (take (3 * 1) t)) t → u ≡ over (copies w k (take (3 * r) t)) t
 one-goal w r k t u e f h = rw (e, f) h
+
+-- ---- rows as plain words
+abbrev Small : List ℕ → Type 0
+Small l = (i : ℕ) → getD l i 0 < 2 ^ 64
+
+small-take : (n : ℕ) (l : List ℕ) → Small l → Small (take n l)
+small-take zero l s i = omega arith
+small-take (suc n) [] s i = omega arith
+small-take (suc n) (x ∷ l) s zero = s 0
+small-take (suc n) (x ∷ l) s (suc i) = small-take n l (λ j. s (suc j)) i
+
+moved-none : (l : List ℕ) → Small l → moved 0 l ≡ l
+unfolding moved
+moved-none [] s = refl
+moved-none (k ∷ []) s = refl
+moved-none (k ∷ a ∷ []) s = refl
+moved-none (k ∷ a ∷ b ∷ l) s = ap₂ (λ x y. k ∷ a ∷ x ∷ y) (stays k b (s 2)) (moved-none l (λ j. s (suc (suc (suc j)))))
+
+copies-none : (k : ℕ) (l : List ℕ) → Small l → copies 0 k l ≡ again k l
+unfolding copies again
+copies-none zero l s = refl
+copies-none (suc k) l s = ap (λ x. l ++ x) (ap (copies 0 k) (moved-none l s) ∙ copies-none k l s)
+
+pub plain-room : (r k n : ℕ) → 3 * (k * r) ≤ n → k * (3 * r) ≤ n
+plain-room r k n h = omega arith
+
+pub plain-goal : (w r k : ℕ) (t u : List ℕ) → w ≡ 0 → ((i : ℕ) → getD t i 0 < 2 ^ 64) → u ≡ over (again k (take (3 * r) t)) t → u ≡ over (copies w k (take (3 * r) t)) t
+plain-goal w r k t u e s h = rw e (h ∙ ap (λ l. over l t) (sym (copies-none k (take (3 * r) t) (small-take (3 * r) t s))))

@@ -1,16 +1,18 @@
 -- The rows of a repeat are its pattern's, copied; its data words likewise. Assumes nothing.
-use Prim.Native.Nat.{ℕ, zero, suc, _+_, _≤_, zero-le}
+use Prim.Native.Nat.{ℕ, zero, suc, _+_, _*_, _≤_, zero-le}
 use native.Mathlib.Omega.{arith}
 use native.Mathlib.Nat.{mod-eq-of-lt}
 use mathlib.Core.Path.{_≡_, refl, sym, ap, ap₂, _∙_}
-use mathlib.Core.List.{_∷_, _++_}
+use mathlib.Core.Bool.{Bool, true, false}
+use mathlib.Core.List.{List, [], _∷_, _++_}
+use Rattle.format.proofs.Choices.{whether}
 use lib.ListN.{length, length-append}
-use Rattle.format.specs.Choice.{pick, ifEq}
-use Rattle.format.specs.Items.{Leaf, int, bits, char, bool, empty, xtra, Group, struc, edt, Items, end, leaf, group, times, leafKind}
-use Rattle.format.specs.Tables.{count, rows, leafWords, dataWords, leafA, leafB, rowKind, rowWords}
+use Rattle.format.specs.Choice.{pick}
+use Rattle.format.specs.Items.{Leaf, int, bits, char, bool, empty, xtra, Group, struc, edt, Items, end, leaf, group, times, leafKind, allOf, groupKind, kinds, isString}
+use Rattle.format.specs.Tables.{count, isText, rows, leafWords, textWords, dataWords, groupWords, leafA, leafB, rowKind, groupB, rowWords}
 use Rattle.format.proofs.Counts.{words, times-zero, times-suc, words-join, data-join, row-words-join}
 use Rattle.format.proofs.TableLaws.{row-length}
-use Rattle.fill.specs.Copies.{shift, moved, copies, again}
+use Rattle.fill.specs.Copies.{placed, shift, moved, copies, again}
 use Rattle.fill.proofs.CopyLaws.{moved-append}
 
 pub count-rows : (xs : Items) → count xs ≤ rows xs
@@ -21,7 +23,7 @@ count-rows (group g c xs) = omega (arith, count-rows xs)
 
 -- ---- moved on, only the places of BITS change
 leaf-moved : (w d : ℕ) (l : Leaf) → d ≤ 65536 → w ≤ 65536 → shift w (leafKind l) (leafB d l) ≡ leafB (d + w) l
-unfolding shift ifEq pick leafKind leafB
+unfolding shift placed pick leafKind leafB
 leaf-moved w d (int z) h g = refl
 leaf-moved w d (bits bs) h g = mod-eq-of-lt (omega arith)
 leaf-moved w d (char c) h g = refl
@@ -29,13 +31,19 @@ leaf-moved w d (bool b) h g = refl
 leaf-moved w d empty h g = refl
 leaf-moved w d (xtra n) h g = refl
 
-group-moved : (w n : ℕ) (g : Group) → shift w (rowKind g) n ≡ n
-unfolding shift ifEq pick rowKind
-group-moved w n struc = refl
-group-moved w n edt = refl
+group-moved : (w d : ℕ) (g : Group) (c : Items) → d ≤ 65536 → w ≤ 65536 → shift w (rowKind g c) (groupB d g c) ≡ groupB (d + w) g c
+unfolding shift placed rowKind groupKind groupB isText isString pick
+group-moved w d struc c h i =
+    whether (allOf 3 (kinds c)) (λ t. rw t (mod-eq-of-lt (omega arith))) (λ t. rw t refl)
+group-moved w d edt c h i = refl
+
+beneath-whole : (t : Bool) (l : List ℕ) (n : ℕ) → length l ≡ 3 * n → length (pick t [] l) ≡ 3 * pick t 0 n
+unfolding pick
+beneath-whole true l n e = refl
+beneath-whole false l n e = e
 
 rows-moved : (w d : ℕ) (xs : Items) → d + words xs ≤ 65536 → w ≤ 65536 → moved w (rowWords d xs) ≡ rowWords (d + w) xs
-unfolding rowWords dataWords moved
+unfolding rowWords dataWords groupWords moved pick
 rows-moved w d end h i = refl
 rows-moved w d (leaf l xs) h i =
     let n = length-append (leafWords l) (dataWords xs) in
@@ -43,11 +51,19 @@ rows-moved w d (leaf l xs) h i =
     ap₂ (λ b r. leafKind l ∷ leafA l ∷ b ∷ r) (leaf-moved w d l (omega arith) i)
     (rows-moved w (d + length (leafWords l)) xs (omega arith) i ∙ ap (λ n. rowWords n xs) e)
 rows-moved w d (group g c xs) h i =
-    let n = length-append (dataWords c) (dataWords xs) in
-    let e : d + words c + w ≡ d + w + words c = omega arith in
-    ap₂ (λ b r. rowKind g ∷ count c ∷ b ∷ r) (group-moved w (rows c) g)
-    (moved-append w (rows c) (rowWords d c) (rowWords (d + words c) xs) (row-length d c)
-    ∙ ap₂ _++_ (rows-moved w d c (omega arith) i) (rows-moved w (d + words c) xs (omega arith) i ∙ ap (λ n. rowWords n xs) e))
+    let v : ℕ = length (groupWords g c) in
+    let n = length-append (groupWords g c) (dataWords xs) in
+    let e : d + v + w ≡ d + w + v = omega arith in
+    let t : Bool = isText g c in
+    ap₂ (λ b r. rowKind g c ∷ count c ∷ b ∷ r) (group-moved w d g c (omega arith) i)
+    (moved-append w (pick t 0 (rows c)) (pick t [] (rowWords d c)) (rowWords (d + v) xs) (beneath-whole t (rowWords d c) (rows c) (row-length d c))
+    ∙ ap₂ _++_ (inside t refl (λ z. rows-moved w d c z i)) (rows-moved w (d + v) xs (omega arith) i ∙ ap (λ n. rowWords n xs) e))
+  where
+    inside : (t : Bool) → isText g c ≡ t → (d + words c ≤ 65536 → moved w (rowWords d c) ≡ rowWords (d + w) c) → moved w (pick t [] (rowWords d c)) ≡ pick t [] (rowWords (d + w) c)
+    inside true q f = refl
+    inside false q f =
+        let z : length (groupWords g c) ≡ words c = ap (λ b. length (pick b (textWords c) (dataWords c))) q in
+        f (omega (arith, length-append (groupWords g c) (dataWords xs)))
 
 -- ---- repeated
 pub rows-again : (k d : ℕ) (xs : Items) → d + words (times k xs) ≤ 65536 → rowWords d (times k xs) ≡ copies (words xs) k (rowWords d xs)

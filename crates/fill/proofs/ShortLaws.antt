@@ -6,11 +6,10 @@ use mathlib.Core.Path.{_≡_, refl, sym, ap, _∙_}
 use mathlib.Core.Logic.{_≢_}
 use mathlib.Core.List.{List, [], _∷_}
 use lib.ListN.{length, take, drop}
-use lib.Dec.{eqb}
 use Rattle.format.specs.Items.{char, struc, edt, Items, end, leaf, group, one, join}
 use Rattle.format.specs.Objects as O
 use Rattle.format.specs.Messages.{says, got, object, onto, next, reads}
-use Rattle.format.proofs.Choices.{eq-true, eq-false, split-eq, ifEq-yes, ifEq-no}
+use Rattle.format.proofs.Choices.{split-eq, ifEq-yes, ifEq-no}
 use Rattle.format.proofs.Parts.{middle-part}
 use Rattle.format.proofs.Steps.{objectAt, reads-nil, reads-cons}
 use Rattle.format.proofs.TypeBytes.{char-class}
@@ -19,11 +18,11 @@ use Rattle.wire.specs.Heads.{wrapOf, shortWrap, shortHead, ShortAt}
 use Rattle.wire.specs.declared.head.Wrap.{Wrap}
 use Rattle.wire.specs.declared.head.Wrap.the-variants.{Struc, Ustruc, Edt}
 use Rattle.fill.specs.Containers.{closed}
-use Rattle.fill.specs.Shorts.{insideOf, groupOf, TextIs}
+use Rattle.fill.specs.Shorts.{insideOf, groupOf}
 use Rattle.fill.proofs.ContainerLaws.{Opened, opened}
 
 -- ---- bytes below 80 are characters
-chars-said : (d : ℕ) (c : List ℕ) → Between 0 0x7f 0 (length c) c → reads d c ≡ says (O.characters c)
+pub chars-said : (d : ℕ) (c : List ℕ) → Between 0 0x7f 0 (length c) c → reads d c ≡ says (O.characters c)
 unfolding O.characters O.headOf O.headBy objectAt object next onto join
 chars-said d [] w = reads-nil d
 chars-said d (b ∷ c) w =
@@ -37,14 +36,6 @@ chars-said d (b ∷ c) w =
 pub text-string : (b : ℕ) (c : List ℕ) → b ≡ 0xc6 → (d : ℕ) → insideOf d b c ≡ says (O.characters c)
 unfolding insideOf
 text-string b c e d = ifEq-yes b 0xc6 (says (O.characters c)) (reads (d + 1) c) e
-
-text-low : (b : ℕ) (c : List ℕ) → b ≢ 0xc6 → Between 0 0x7f 0 (length c) c → (d : ℕ) → insideOf d b c ≡ says (O.characters c)
-unfolding insideOf
-text-low b c n w d = ifEq-no b 0xc6 (says (O.characters c)) (reads (d + 1) c) n ∙ chars-said (d + 1) c w
-
--- as the code tests it: up to r the bytes are below 80
-pub text-test : (b : ℕ) (c : List ℕ) (r : ℕ) → b ≢ 0xc6 → Between 0 0x7f 0 r c → TextIs b c (eqb r (length c))
-text-test b c r n w = split-eq r (length c) (λ e. rw (eq-true r (length c) e) (text-low b c n (rw e at w))) (λ q. rw (eq-false r (length c) q) n)
 
 -- ---- the object, by its contents
 pub record Inside (d b : ℕ) (s : List ℕ) (n : ℕ) (ys : Items) (u : ℕ) : Type 0 where

@@ -14,7 +14,6 @@ use Rattle.format.specs.Objects.{contents, following, integer}
 use Rattle.format.specs.Messages.{object, got, onto, next, reads}
 use Rattle.format.specs.Tables.{rows, count, dataWords, rowWords}
 use Rattle.format.specs.Answers.{over}
-use Rattle.format.proofs.Choices.{split}
 use Rattle.format.proofs.Counts.{words, join-end, rows-join, count-join, words-join, row-words-join}
 use Rattle.format.proofs.Parts.{rest-part}
 use Rattle.format.proofs.Steps.{objectAt}
@@ -22,9 +21,9 @@ use Rattle.format.proofs.TableLaws.{row-length}
 use Rattle.wire.specs.Ranges.{Between}
 use Rattle.wire.specs.Heads.{IsRow, RowAt}
 use Rattle.wire.proofs.Ranges.{between-none, between-join, between-next}
-use Rattle.wire.proofs.RowsAt.{char-at, small-at, long-byte, long-at, xtra-at, bool-at, empty-at}
+use Rattle.wire.proofs.RowsAt.{char-at, small-at, long-byte, long-at}
 use Rattle.fill.specs.declared.stretch.Stretch.{Stretch}
-use Rattle.fill.specs.Stretch.{Ranged, LongOf, Bare, Stretched}
+use Rattle.fill.specs.Stretch.{Ranged, LongOf, Stretched}
 use Rattle.fill.proofs.Over.{over-self, over-length, grown}
 use Rattle.fill.proofs.PlainLaws.{gap-head}
 use Rattle.format.proofs.Growing.{onto-none, onto-onto}
@@ -54,17 +53,19 @@ pub long-of : (b k : ℕ) (t : Bool) → t ≡ eqb (b / 8) 0x1c → t ≡ true �
 long-of b k t e h f = let r = long-byte b t e h in (r .0, r .1, f)
 
 -- ---- bytes without data words
-gap-object : (d b : ℕ) (s : List ℕ) → 0xff ≤ b → b ≤ 0xff → objectAt d b s ≡ got end 0
+-- From i to e the bytes say items without data words, however deep they stand.
+pub record Bare (s : List ℕ) (i e : ℕ) : Type 0 where
+  pub items : Items
+  pub from : i ≤ e
+  pub to : e ≤ length s
+  pub said : (d : ℕ) → reads d (drop i s) ≡ onto items (e - i) (reads d (drop e s))
+  pub none : length (dataWords items) ≡ 0
+
+pub gap-object : (d b : ℕ) (s : List ℕ) → 0xff ≤ b → b ≤ 0xff → objectAt d b s ≡ got end 0
 unfolding objectAt object
 gap-object d b s g h = ap (object (λ a m. reads (suc d) (contents s a m))) (gap-head d b s (omega arith))
 
 module _ (s : List ℕ) (i : ℕ) where
-  pub bare-none : i ≤ length s → Bare s i i
-  unfolding dataWords
-  bare-none h =
-      let k : i - i ≡ 0 = omega arith in
-      record { items = end; from = le-refl i; to = h; said = λ d. rw k (onto-none (reads d (drop i s))); none = refl }
-
   module _ (e : ℕ) (c : Bare s i e) (h : e < length s) where
     -- one object more
     bare-object : (x : Items) (u : ℕ) → u ≤ length s - (e + 1) → words x ≡ 0 → ((d : ℕ) → objectAt d (getD s e 0) (drop (e + 1) s) ≡ got x u)
@@ -92,36 +93,6 @@ module _ (s : List ℕ) (i : ℕ) where
     bare-row k v u l r =
         bare-object (one (r .leaf)) u l (leaf-none k v (r .leaf) (r .row))
         (λ d. ap (object (λ a n. reads (suc d) (contents (drop (e + 1) s) a n))) (r .head d))
-
-    pub bare-low : getD s e 0 < 0xc0 → Bare s i (e + 1)
-    bare-low l =
-        let b : ℕ = getD s e 0 in
-        subst (Bare s i) (add-zero (e + 1))
-        (split b 0x80
-        (λ l. bare-row 3 b 0 zero-le (char-at b (drop (e + 1) s) l))
-        (λ g. bare-row 1 (b % 64) 0 zero-le (small-at b (drop (e + 1) s) g l)))
-
-    pub bare-high : 0xf8 ≤ getD s e 0 → getD s e 0 ≤ 0xff → Bare s i (e + 1)
-    bare-high g l =
-        let b : ℕ = getD s e 0 in
-        let r : List ℕ = drop (e + 1) s in
-        subst (Bare s i) (add-zero (e + 1))
-        (split b 0xfc
-        (λ x. bare-row 6 (b % 4) 0 zero-le (xtra-at b r g x))
-        (λ x.
-        split b 0xfe
-        (λ y. bare-row 4 (b % 2) 0 zero-le (bool-at b r x y))
-        (λ y.
-        split b 0xff
-        (λ z. bare-row 5 0 0 zero-le (empty-at b r (omega arith)))
-        (λ z. bare-object end 0 zero-le (unfold dataWords in refl) (λ d. gap-object d b r z l)))))
-
-    pub bare-long : (k : ℕ) → LongOf (getD s e 0) k → k < length s - e → Bare s i (e + (1 + k))
-    bare-long k q l =
-        let v : ℕ = twos 8 (integer (take k (drop (e + 1) s))) in
-        let a : e + 1 + k ≡ e + (1 + k) = omega arith in
-        subst (Bare s i) a
-        (bare-row 1 v k (omega arith) (long-at (getD s e 0) k v (drop (e + 1) s) (q .0) (q .1) (q .2) (omega (arith, length-drop (e + 1) s)) refl))
 
 -- ---- stretches
 pub bare-of : (s : List ℕ) (i used : ℕ) (t₀ t : List ℕ) (e n : ℕ) → Stretched s i used t₀ t e n → Bare s i e

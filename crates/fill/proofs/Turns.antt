@@ -1,4 +1,4 @@
--- A run, one object further on: what the two walks share. Assumes nothing.
+-- A run, one object further on, for the walk and for the look for strings. Assumes nothing.
 use Prim.Native.Nat.{ℕ, suc, _+_, _-_, _≤_, _<_, zero-le}
 use native.Mathlib.Omega.{arith}
 use native.Mathlib.Numerals.{add-one}

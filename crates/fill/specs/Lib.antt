@@ -1,4 +1,5 @@
 pub mod Copies
+pub mod Texts
 pub mod Plain
 pub mod Containers
 pub mod Walks

@@ -1,14 +1,14 @@
 -- A container or a string whose size is one byte, by its type-byte and its contents.
 use Prim.Native.Nat.{ℕ, _+_}
 use mathlib.Core.Path.{_≡_}
-use mathlib.Core.Logic.{_≢_}
-use mathlib.Core.Bool.{Bool, true, false}
+use mathlib.Core.Bool.{Bool, true}
 use mathlib.Core.List.{List}
 use Rattle.format.specs.Choice.{ifEq}
 use Rattle.format.specs.Items.{Group, struc, edt, Items, end, group}
+use Rattle.format.specs.Tables.{isText}
 use Rattle.format.specs.Objects.{characters}
 use Rattle.format.specs.Messages.{Outcome, says, reads}
-use Rattle.fill.specs.declared.rows.Filled.{Filled}
+use Rattle.fill.specs.declared.walk.Filled.{Filled}
 use Rattle.fill.specs.Walks.{Fits, Laid}
 
 -- what the contents say, d containers around the object
@@ -20,18 +20,17 @@ unfoldable pub groupOf : ℕ → Group
 unfolding ifEq
 groupOf b = ifEq b 0xc3 edt struc
 
--- found to be characters, however deep; or not found so, and no string
-abbrev pub TextIs : ℕ → List ℕ → Bool → Type 0
-TextIs b c true = (d : ℕ) → insideOf d b c ≡ says (characters c)
-TextIs b c false = b ≢ 0xc6
-
 -- the contents are accepted, and the object fits
-pub record ShortFits (d b : ℕ) (c : List ℕ) (base len : ℕ) : Type 0 where
+pub record ShortFits (d b : ℕ) (c : List ℕ) (base gap len : ℕ) : Type 0 where
   pub items : Items
   pub said : insideOf d b c ≡ says items
-  pub fits : Fits (group (groupOf b) items end) base len
+  pub fits : Fits (group (groupOf b) items end) base gap len
 
-pub record ShortFilled (d b : ℕ) (c : List ℕ) (base : ℕ) (t t′ : List ℕ) (r : Filled) : Type 0 where
+-- whether it can be a string: a STRUC can, and nothing that is one is missed
+abbrev pub TextLike : ℕ → List ℕ → Bool → Type 0
+TextLike b c r = (r ≡ true → groupOf b ≡ struc) × ((d : ℕ) (xs : Items) → insideOf d b c ≡ says xs → isText (groupOf b) xs ≡ true → r ≡ true)
+
+pub record ShortFilled (d b : ℕ) (c : List ℕ) (base gap : ℕ) (t t′ : List ℕ) (r : Filled) : Type 0 where
   pub items : Items
   pub said : insideOf d b c ≡ says items
-  pub laid : Laid (group (groupOf b) items end) base t t′ (r .rows) (r .count) (r .words)
+  pub laid : Laid (group (groupOf b) items end) base gap t t′ (r .rows) (r .count) (r .words)

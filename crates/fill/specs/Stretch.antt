@@ -18,14 +18,6 @@ Ranged lo hi kind = (b : ℕ) (s : List ℕ) → lo ≤ b → b ≤ hi → RowAt
 abbrev pub LongOf : ℕ → ℕ → Type 0
 LongOf b k = (0xe0 ≤ b) × (b ≤ 0xe7) × (k ≡ following b)
 
--- From i to e the bytes say items without data words, however deep they stand.
-pub record Bare (s : List ℕ) (i e : ℕ) : Type 0 where
-  pub items : Items
-  pub from : i ≤ e
-  pub to : e ≤ length s
-  pub said : (d : ℕ) → reads d (drop i s) ≡ onto items (e - i) (reads d (drop e s))
-  pub none : length (dataWords items) ≡ 0
-
 -- From i to e the bytes say items of n rows and no data words, however deep they stand; behind `used` words of the table, which
 -- was t₀ and is t, their rows stand.
 pub record Stretched (s : List ℕ) (i used : ℕ) (t₀ t : List ℕ) (e n : ℕ) : Type 0 where

@@ -1,8 +1,8 @@
--- What the two walks ask of a run or an object, and what they write: its rows, or its data words, over the front of the table.
+-- What the walk asks of a run or an object, and what it writes: its rows over the front of the table, and its data words further on.
 use Prim.Native.Nat.{ℕ, _+_, _*_, _≤_}
 use mathlib.Core.Path.{_≡_}
-use mathlib.Core.List.{List}
-use lib.ListN.{length}
+use mathlib.Core.List.{List, _++_}
+use lib.ListN.{length, take, drop}
 use Rattle.format.specs.Items.{Items}
 use Rattle.format.specs.Messages.{says, got, reads}
 use Rattle.format.specs.Tables.{rows, count, dataWords, rowWords}
@@ -10,64 +10,40 @@ use Rattle.format.specs.Answers.{over}
 use Rattle.format.specs.Refusals.{wordLimit}
 use Rattle.format.proofs.Steps.{objectAt}
 use Rattle.fill.specs.declared.plain.Placed.{Placed}
-use Rattle.fill.specs.declared.plain.Stored.{Stored}
-use Rattle.fill.specs.declared.rows.Filled.{Filled}
+use Rattle.fill.specs.declared.walk.Filled.{Filled}
 
--- the table has room for the rows, and the data words with the `base` before them keep to the limit
-abbrev pub Fits : Items → ℕ → ℕ → Type 0
-Fits xs base len = (3 * rows xs ≤ len) × (base + length (dataWords xs) ≤ wordLimit)
+-- The data start `gap` words on, and `base` words of them come before. The rows have room before the data, the data words in
+-- the table, and these keep to the limit.
+abbrev pub Fits : Items → ℕ → ℕ → ℕ → Type 0
+Fits xs base gap len = (3 * rows xs ≤ gap) × (gap + (base + length (dataWords xs)) ≤ len) × (base + length (dataWords xs) ≤ wordLimit)
 
 -- the run is accepted, and fits
-pub record RunFits (d : ℕ) (s : List ℕ) (base len : ℕ) : Type 0 where
+pub record RunFits (d : ℕ) (s : List ℕ) (base gap len : ℕ) : Type 0 where
   pub items : Items
   pub said : reads d s ≡ says items
-  pub fits : Fits items base len
+  pub fits : Fits items base gap len
 
-pub record ObjectFits (d b : ℕ) (s : List ℕ) (base len : ℕ) : Type 0 where
+pub record ObjectFits (d b : ℕ) (s : List ℕ) (base gap len : ℕ) : Type 0 where
   pub items : Items
   pub past : ℕ
   pub said : objectAt d b s ≡ got items past
-  pub fits : Fits items base len
+  pub fits : Fits items base gap len
 
--- the rows of items stand over the front of the table: how many rows, items and data words, and the table afterwards
-pub record Laid (xs : Items) (base : ℕ) (t t′ : List ℕ) (r c w : ℕ) : Type 0 where
+-- The rows of items stand over the front of the table, and their data words behind those before: how many rows, items and data
+-- words, and the table afterwards, its part before the data and the data.
+pub record Laid (xs : Items) (base gap : ℕ) (t t′ : List ℕ) (r c w : ℕ) : Type 0 where
   pub rows-are : r ≡ rows xs
   pub count-is : c ≡ count xs
   pub words-are : w ≡ length (dataWords xs)
-  pub table-is : t′ ≡ over (rowWords base xs) t
+  pub front-is : take gap t′ ≡ over (rowWords base xs) (take gap t)
+  pub back-is : drop gap t′ ≡ over (take base (drop gap t) ++ dataWords xs) (drop gap t)
 
-pub record RunFilled (d : ℕ) (s : List ℕ) (base : ℕ) (t t′ : List ℕ) (r : Filled) : Type 0 where
+pub record RunFilled (d : ℕ) (s : List ℕ) (base gap : ℕ) (t t′ : List ℕ) (r : Filled) : Type 0 where
   pub items : Items
   pub said : reads d s ≡ says items
-  pub laid : Laid items base t t′ (r .rows) (r .count) (r .words)
+  pub laid : Laid items base gap t t′ (r .rows) (r .count) (r .words)
 
-pub record ObjectFilled (d b : ℕ) (s : List ℕ) (base : ℕ) (t t′ : List ℕ) (r : Placed) : Type 0 where
+pub record ObjectFilled (d b : ℕ) (s : List ℕ) (base gap : ℕ) (t t′ : List ℕ) (r : Placed) : Type 0 where
   pub items : Items
   pub said : objectAt d b s ≡ got items (r .past)
-  pub laid : Laid items base t t′ (r .rows) (r .count) (r .words)
-
--- the same of the data words: the run is accepted, and the table has room for them
-pub record RunRoom (d : ℕ) (s : List ℕ) (len : ℕ) : Type 0 where
-  pub items : Items
-  pub said : reads d s ≡ says items
-  pub room : length (dataWords items) ≤ len
-
-pub record ObjectRoom (d b : ℕ) (s : List ℕ) (len : ℕ) : Type 0 where
-  pub items : Items
-  pub past : ℕ
-  pub said : objectAt d b s ≡ got items past
-  pub room : length (dataWords items) ≤ len
-
-pub record Kept (xs : Items) (t t′ : List ℕ) (w : ℕ) : Type 0 where
-  pub words-are : w ≡ length (dataWords xs)
-  pub table-is : t′ ≡ over (dataWords xs) t
-
-pub record RunStored (d : ℕ) (s t t′ : List ℕ) (w : ℕ) : Type 0 where
-  pub items : Items
-  pub said : reads d s ≡ says items
-  pub kept : Kept items t t′ w
-
-pub record ObjectStored (d b : ℕ) (s t t′ : List ℕ) (r : Stored) : Type 0 where
-  pub items : Items
-  pub said : objectAt d b s ≡ got items (r .past)
-  pub kept : Kept items t t′ (r .words)
+  pub laid : Laid items base gap t t′ (r .rows) (r .count) (r .words)

@@ -1,5 +1,5 @@
 -- The whole table of a message.
-use Prim.Native.Nat.{ℕ, _+_, _*_, _≤_}
+use Prim.Native.Nat.{ℕ, _+_, _≤_}
 use mathlib.Core.Path.{_≡_}
 use mathlib.Core.List.{List, _++_}
 use lib.ListN.{length, take}
@@ -15,17 +15,11 @@ Roomy (refused f) r w len = ⊥
 Roomy (says xs) r w len =
     (r ≡ rows xs) × (w ≡ length (dataWords xs)) × (rows xs ≤ rowLimit) × (length (dataWords xs) ≤ wordLimit) × (wordsNeeded xs ≤ len)
 
--- the rows behind the header, and how many items are outermost
-unfoldable pub RowsPut : Outcome → List ℕ → List ℕ → ℕ → Type 0
-unfolding count rowWords over
-RowsPut (refused f) t t′ n = Unit {0}
-RowsPut (says xs) t t′ n = (n ≡ count xs) × (t′ ≡ over (take 4 t ++ rowWords 0 xs) t)
-
--- the data words behind the rows
-unfoldable pub WordsPut : Outcome → List ℕ → List ℕ → Type 0
-unfolding rows dataWords over
-WordsPut (refused f) t t′ = Unit {0}
-WordsPut (says xs) t t′ = t′ ≡ over (take (4 + 3 * rows xs) t ++ dataWords xs) t
+-- rows and data words behind the header, and how many items are outermost
+unfoldable pub ItemsPut : Outcome → List ℕ → List ℕ → ℕ → Type 0
+unfolding count rowWords dataWords over
+ItemsPut (refused f) t t′ n = Unit {0}
+ItemsPut (says xs) t t′ n = (n ≡ count xs) × (t′ ≡ over (take 4 t ++ (rowWords 0 xs ++ dataWords xs)) t)
 
 -- the table lent, afterwards
 unfoldable pub laidOut : Outcome → List ℕ → List ℕ

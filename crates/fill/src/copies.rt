@@ -1,4 +1,5 @@
-// A repeat's later copies: one row without data words is stored again and again, of other rows all the copies so far are copied.
+// A repeat's later copies: one row without data words is stored again and again, of other rows all the copies so far are copied,
+// and as plain words where they have no data words.
 ghost use mathlib.Core.Path.{_≡_};
 ghost use Prim.Native.Nat.{_+_, _*_, _%_, _≤_, _<_};
 ghost use mathlib.Core.List.{_++_};
@@ -19,11 +20,14 @@ pub fn copies_of(w: Wrap) -> usize
     }
 }
 
-// The last word of a row that is copied: a BITS row's data lie `words` further on.
+// The last word of a row that is copied: the data of BITS and of a string lie `words` further on.
 fn shifted(kind: u64, b: u64, words: usize) -> u64
     ensures { λ r. ⌜ r ≡ shift words kind b ⌝ }
 {
     if kind == 2 {
+        return std::num::wrapping_add_u64(b, words as u64);
+    }
+    if kind == 9 {
         return std::num::wrapping_add_u64(b, words as u64);
     }
     b
@@ -79,22 +83,8 @@ fn copy_moved(table: &mut [u64], rows: usize, words: usize, k: usize)
     }
 }
 
-// The first rows of the table stand there k times, each copy's data `words` on from those of the copy before.
-pub fn copy_rows(table: &mut [u64], rows: usize, words: usize, k: usize)
-    requires { ⌜ (0 < k) × (3 * (k * rows) ≤ length (now table)) × (k * words ≤ 16384) ⌝ }
-    ensures { λ r. ⌜ now (table .exit) ≡ over (copies words k (take (3 * rows) (now (table .entry)))) (now (table .entry)) ⌝ }
-{
-    if rows == 1 {
-        if words == 0 {
-            copy_row(table, k);
-            return;
-        }
-    }
-    copy_moved(table, rows, words, k);
-}
-
 // The first n words of the table stand again from `to` on.
-fn copy_plain(table: &mut [u64], to: usize, n: usize)
+pub fn copy_plain(table: &mut [u64], to: usize, n: usize)
     requires { ⌜ (n ≤ to) × (to + n ≤ length (now table)) ⌝ }
     ensures { λ r. ⌜ now (table .exit) ≡ over (take to (now (table .entry)) ++ take n (now (table .entry))) (now (table .entry)) ⌝ }
 {
@@ -105,15 +95,35 @@ fn copy_plain(table: &mut [u64], to: usize, n: usize)
     }
 }
 
-// The first n words of the table stand there k times; each round copies as above.
+// The first n words of the table stand there k times; each round copies as above, and of none nothing.
 pub fn copy_words(table: &mut [u64], n: usize, k: usize)
     requires { ⌜ (0 < k) × (k * n ≤ length (now table)) ⌝ }
     ensures { λ r. ⌜ now (table .exit) ≡ over (again k (take n (now (table .entry)))) (now (table .entry)) ⌝ }
 {
+    if n == 0 {
+        return;
+    }
     let mut done: usize = 1;
     while done < k {
         let more = least(done, k - done);
         copy_plain(table, done * n, more * n);
         done += more;
     }
+}
+
+// The first rows of the table stand there k times, each copy's data `words` on from those of the copy before. Rows without data
+// words are copied as they stand.
+pub fn copy_rows(table: &mut [u64], rows: usize, words: usize, k: usize)
+    requires { ⌜ (0 < k) × (3 * (k * rows) ≤ length (now table)) × (k * words ≤ 16384) ⌝ }
+    ensures { λ r. ⌜ now (table .exit) ≡ over (copies words k (take (3 * rows) (now (table .entry)))) (now (table .entry)) ⌝ }
+{
+    if words == 0 {
+        if rows == 1 {
+            copy_row(table, k);
+            return;
+        }
+        copy_words(table, 3 * rows, k);
+        return;
+    }
+    copy_moved(table, rows, words, k);
 }

@@ -1,23 +1,21 @@
-// Objects that are no containers: their rows, and their data words.
+// Objects that are no containers and no strings: their row, and their data words.
 ghost use mathlib.Core.Path.{_≡_};
-ghost use Prim.Native.Nat.{_*_, _≤_};
+ghost use Prim.Native.Nat.{_+_, _≤_};
 ghost use mathlib.Core.List.{_∷_, []};
 ghost use lib.ListN.{length};
 ghost use Rattle.format.specs.Answers.{over};
-ghost use Rattle.fill.specs.Plain.{Apt, charRows, plainRows, plainWords, plainPlaced, plainStored};
+ghost use Rattle.format.specs.Bits.{wordsFor};
+ghost use Rattle.format.specs.Objects.{following};
+ghost use Rattle.fill.specs.Plain.{Apt, plainRows, plainWords, plainPlaced, sbitsHead, PlainPut};
 use super::bits::put_bits;
+use wire::bits::short_word;
 use wire::head::Head;
+use wire::integer::following_of;
 
-// What the walk of the rows wrote of an object, and the object's bytes past the type-byte.
+// What the walk wrote of an object, and the object's bytes past the type-byte.
 pub struct Placed {
     pub rows: usize,
     pub count: usize,
-    pub words: usize,
-    pub past: usize,
-}
-
-// What the walk of the data wrote of an object, and the object's bytes past the type-byte.
-pub struct Stored {
     pub words: usize,
     pub past: usize,
 }
@@ -31,22 +29,7 @@ pub fn put_row(table: &mut [u64], kind: u64, a: u64, b: u64)
     table[2] = b;
 }
 
-// A CHAR row for each byte.
-pub fn put_characters(c: &[u8], table: &mut [u64])
-    requires { ⌜ 3 * length (now c) ≤ length (now table) ⌝ }
-    ensures { λ r. ⌜ now (table .exit) ≡ over (charRows (now (c .entry))) (now (table .entry)) ⌝ }
-{
-    let mut i: usize = 0;
-    while i < c.len() {
-        let at = 3 * i;
-        table[at] = 3;
-        table[at + 1] = 0;
-        table[at + 2] = (c[i] % 128) as u64;
-        i += 1;
-    }
-}
-
-// The rows of an object by its head; none where there is no item or its contents are still to be read.
+// The row of an object by its head; none where there is no item or its contents are still to be read.
 pub fn put_plain(h: Head, s: &[u8], base: usize, table: &mut [u64]) -> Placed
     requires { ⌜ (length (now s) ≤ 65536) × Apt (now s) h × (length (plainRows (now s) base h) ≤ length (now table)) ⌝ }
     ensures { λ r. ⌜ (r ≡ plainPlaced h) × (now (table .exit) ≡ over (plainRows (now (s .entry)) base h) (now (table .entry))) ⌝ }
@@ -54,21 +37,15 @@ pub fn put_plain(h: Head, s: &[u8], base: usize, table: &mut [u64]) -> Placed
     match h {
         Head::Row(kind, v, u) => {
             put_row(table, kind, 0, v);
-            one_item(1, 0, u)
+            one_item(0, u)
         }
         Head::Short(n, _, u) => {
             put_row(table, 2, n as u64, base as u64);
-            one_item(1, (n + 63) / 64, u)
+            one_item((n + 63) / 64, u)
         }
         Head::Long(_, n, u) => {
             put_row(table, 2, n as u64, base as u64);
-            one_item(1, (n + 63) / 64, u)
-        }
-        Head::Text(a, n) => {
-            let e = a + n;
-            put_characters(&s[a..e], &mut table[3..]);
-            put_row(table, 7, n as u64, n as u64);
-            one_item(n + 1, 0, e)
+            one_item((n + 63) / 64, u)
         }
         _ => Placed {
             rows: 0,
@@ -79,12 +56,12 @@ pub fn put_plain(h: Head, s: &[u8], base: usize, table: &mut [u64]) -> Placed
     }
 }
 
-// One item, of so many rows and data words.
-fn one_item(rows: usize, words: usize, past: usize) -> Placed
-    ensures { λ r. ⌜ r ≡ record { rows = rows; count = 1; words = words; past = past } ⌝ }
+// One item of one row, and of so many data words.
+pub fn one_item(words: usize, past: usize) -> Placed
+    ensures { λ r. ⌜ r ≡ record { rows = 1; count = 1; words = words; past = past } ⌝ }
 {
     Placed {
-        rows,
+        rows: 1,
         count: 1,
         words,
         past,
@@ -92,30 +69,31 @@ fn one_item(rows: usize, words: usize, past: usize) -> Placed
 }
 
 // The data words of an object by its head.
-pub fn put_data(h: Head, s: &[u8], table: &mut [u64]) -> Stored
+pub fn put_data(h: Head, s: &[u8], table: &mut [u64])
     requires { ⌜ (length (now s) ≤ 65536) × Apt (now s) h × (length (plainWords (now s) h) ≤ length (now table)) ⌝ }
-    ensures { λ r. ⌜ (r ≡ plainStored h) × (now (table .exit) ≡ over (plainWords (now (s .entry)) h) (now (table .entry))) ⌝ }
+    ensures { λ r. ⌜ now (table .exit) ≡ over (plainWords (now (s .entry)) h) (now (table .entry)) ⌝ }
 {
     match h {
-        Head::Row(_, _, u) => Stored { words: 0, past: u },
-        Head::Short(n, w, u) => {
-            if n == 0 {
-                return Stored { words: 0, past: u };
-            }
-            table[0] = w;
-            Stored { words: 1, past: u }
-        }
-        Head::Long(a, n, u) => {
-            put_bits(&s[a..u], n, table);
-            Stored {
-                words: (n + 63) / 64,
-                past: u,
+        Head::Short(n, w, _) => {
+            if n > 0 {
+                table[0] = w;
             }
         }
-        Head::Text(a, n) => Stored {
-            words: 0,
-            past: a + n,
-        },
-        _ => Stored { words: 0, past: 0 },
+        Head::Long(a, n, u) => put_bits(&s[a..u], n, table),
+        _ => {}
     }
+}
+
+// The row and the data word of an SBITSTR of n bits; b is its type-byte, and s are the bytes behind it. The row goes to the front
+// of the table; the data start `gap` words on, and `base` words of them come before.
+pub fn put_sbits(b: u8, s: &[u8], n: usize, base: usize, gap: usize, table: &mut [u64]) -> Placed
+    requires { ⌜ (n ≤ 63) × (following b ≤ length (now s)) × (3 ≤ gap) × (gap + (base + wordsFor n) ≤ length (now table)) ⌝ }
+    ensures { λ r. ⌜ PlainPut (now (s .entry)) (sbitsHead b (now (s .entry)) n) base gap (now (table .entry)) (now (table .exit)) r ⌝ }
+{
+    put_row(table, 2, n as u64, base as u64);
+    if n == 0 {
+        return one_item(0, following_of(b));
+    }
+    table[gap + base] = short_word(b, s, n);
+    one_item(1, following_of(b))
 }

@@ -87,6 +87,11 @@ unfolding pick
 byPick P true f g = f refl
 byPick P false f g = g refl
 
+-- a test holds or does not
+pub whether {ℓ} : {X : Type ℓ} (t : Bool) → (t ≡ true → X) → (t ≡ false → X) → X
+whether true f g = f refl
+whether false f g = g refl
+
 -- both tests hold exactly when each does
 pub both-left : (a b : Bool) → both a b ≡ true → a ≡ true
 unfolding both

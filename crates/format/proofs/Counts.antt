@@ -1,12 +1,13 @@
 -- Rows, items, data words and kinds of lists of items, joined and repeated. Assumes nothing.
 use Prim.Native.Nat.{ℕ, zero, suc, _+_, _*_}
 use mathlib.Core.Path.{_≡_, refl, sym, ap, _∙_}
-use mathlib.Core.List.{_∷_, _++_, append-assoc}
+use mathlib.Core.List.{List, [], _∷_, _++_, append-assoc}
 use native.Mathlib.Nat.{suc-mul}
 use native.Mathlib.Omega.{arith}
 use lib.ListN.{length, length-append}
+use Rattle.format.specs.Choice.{pick}
 use Rattle.format.specs.Items.{Items, end, leaf, group, join, times, leafKind, groupKind, kinds}
-use Rattle.format.specs.Tables.{count, rows, leafWords, dataWords, leafA, leafB, rowKind, rowWords}
+use Rattle.format.specs.Tables.{count, rows, leafWords, dataWords, leafA, leafB, isText, rowKind, groupB, groupWords, rowWords}
 
 -- ---- a repeat is its pattern, one time after another
 pub times-zero : (xs : Items) → times 0 xs ≡ end
@@ -47,10 +48,10 @@ count-join (leaf l xs) ys = omega (arith, count-join xs ys)
 count-join (group g c xs) ys = omega (arith, count-join xs ys)
 
 pub data-join : (xs ys : Items) → dataWords (join xs ys) ≡ dataWords xs ++ dataWords ys
-unfolding dataWords join
+unfolding dataWords groupWords join
 data-join end ys = refl
 data-join (leaf l xs) ys = rw (data-join xs ys) (sym (append-assoc (leafWords l) (dataWords xs) (dataWords ys)))
-data-join (group g c xs) ys = rw (data-join xs ys) (sym (append-assoc (dataWords c) (dataWords xs) (dataWords ys)))
+data-join (group g c xs) ys = rw (data-join xs ys) (sym (append-assoc (groupWords g c) (dataWords xs) (dataWords ys)))
 
 pub kinds-join : (xs ys : Items) → kinds (join xs ys) ≡ kinds xs ++ kinds ys
 unfolding kinds join
@@ -82,13 +83,15 @@ words-times = multiplied words (unfold dataWords in refl) words-join
 
 -- ---- the rows of a list
 pub row-words-join : (d : ℕ) (xs ys : Items) → rowWords d (join xs ys) ≡ rowWords d xs ++ rowWords (d + words xs) ys
-unfolding rowWords join dataWords
+unfolding rowWords join dataWords groupWords
 row-words-join d end ys = let e : d + 0 ≡ d = omega arith in rw e refl
 row-words-join d (leaf l xs) ys =
     let e : d + length (leafWords l) + words xs ≡ d + length (leafWords l ++ dataWords xs) = omega (arith, length-append (leafWords l) (dataWords xs)) in
     ap (λ r. leafKind l ∷ leafA l ∷ leafB d l ∷ r) (row-words-join (d + length (leafWords l)) xs ys ∙ ap (λ n. rowWords (d + length (leafWords l)) xs ++ rowWords n ys) e)
 row-words-join d (group g c xs) ys =
-    let e : d + words c + words xs ≡ d + length (dataWords c ++ dataWords xs) = omega (arith, length-append (dataWords c) (dataWords xs)) in
-    ap (λ r. rowKind g ∷ count c ∷ rows c ∷ r)
-    (ap (λ r. rowWords d c ++ r) (row-words-join (d + words c) xs ys ∙ ap (λ n. rowWords (d + words c) xs ++ rowWords n ys) e)
-    ∙ sym (append-assoc (rowWords d c) (rowWords (d + words c) xs) (rowWords (d + length (dataWords c ++ dataWords xs)) ys)))
+    let w : ℕ = length (groupWords g c) in
+    let in-it : List ℕ = pick (isText g c) [] (rowWords d c) in
+    let e : d + w + words xs ≡ d + length (groupWords g c ++ dataWords xs) = omega (arith, length-append (groupWords g c) (dataWords xs)) in
+    ap (λ r. rowKind g c ∷ count c ∷ groupB d g c ∷ r)
+    (ap (λ r. in-it ++ r) (row-words-join (d + w) xs ys ∙ ap (λ n. rowWords (d + w) xs ++ rowWords n ys) e)
+    ∙ sym (append-assoc in-it (rowWords (d + w) xs) (rowWords (d + length (groupWords g c ++ dataWords xs)) ys)))

@@ -9,9 +9,9 @@ use lib.IntN.{pos, negsuc}
 use Rattle.format.specs.Choice.{both}
 use Rattle.format.specs.Bits.{num, packed, bytesFor}
 use Rattle.format.specs.Items.{Leaf, int, bits, char, bool, empty, xtra, Group, Items, end, leaf, group, join, times, properLeaf, properGroup, proper}
-use Rattle.format.specs.Tables.{rows}
+use Rattle.format.specs.Tables.{isText, rows}
 use Rattle.format.specs.Normal.{normalSize, withSize, linteger, normalInt, sbitstr, normalBits, normalLeaf, groupByte, normal, depth}
-use Rattle.format.proofs.Choices.{both-left, both-right, both-true, byLt}
+use Rattle.format.proofs.Choices.{both-left, both-right, both-true, byLt, byPick}
 use Rattle.format.proofs.Sizes.{size-pos, sized-length}
 
 -- ---- what `proper` says of an item and of the rest, both ways
@@ -106,7 +106,9 @@ pub rows-least : (xs : Items) → rows xs ≤ length (normal xs)
 unfolding rows
 rows-least end = omega arith
 rows-least (leaf l xs) = omega (arith, rows-least xs, leaf-pos l, length-leaf l xs)
-rows-least (group g c xs) = omega (arith, rows-least c, rows-least xs, size-pos (length (normal c)), length-group g c xs)
+rows-least (group g c xs) =
+    let own = byPick (λ n. n ≤ rows c) (isText g c) {x = 0} {y = rows c} (λ e. omega arith) (λ e. omega arith) in
+    omega (arith, own, rows-least c, rows-least xs, size-pos (length (normal c)), length-group g c xs)
 
 -- no rows, no bytes; and no bytes, no items
 pub rows-none : (xs : Items) → rows xs ≡ 0 → length (normal xs) ≡ 0

@@ -4,6 +4,7 @@ pub mod Digits
 pub mod SignedLaws
 pub mod BitLaws
 pub mod Marker
+pub mod MaskLaws
 pub mod Steps
 pub mod ClassCodes
 pub mod TreeLaws

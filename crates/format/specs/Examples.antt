@@ -6,7 +6,7 @@ use mathlib.Core.Bool.{Bool, true, false}
 use mathlib.Core.List.{List, [], _∷_, _++_}
 use lib.ListN.{length, replicate}
 use lib.IntN.{pos, negsuc}
-use Rattle.format.specs.Items.{int, bits, char, empty, struc, Items, end, leaf, group, one}
+use Rattle.format.specs.Items.{int, bits, empty, struc, Items, end, leaf, group, one, text}
 use Rattle.format.specs.Messages.{says, outcome}
 use Rattle.format.specs.Answers.{reading, Writing, unwritten, writing, normalising}
 
@@ -18,10 +18,6 @@ pub data Example : Type 0 where
 unfoldable pub ints : List ℕ → Items
 ints [] = end
 ints (n ∷ l) = leaf (int (pos n)) (ints l)
-
-unfoldable pub text : List ℕ → Items
-text [] = end
-text (c ∷ l) = leaf (char c) (text l)
 
 unfoldable pub zeroRows : ℕ → List ℕ
 zeroRows zero = []
@@ -87,7 +83,7 @@ line7 = accepted (0xc1 ∷ 0x03 ∷ 0x8c ∷ 0xaa ∷ 0xa0 ∷ []) (one (bits (i
 unfoldable pub line8 : Example
 unfolding ints text zeroRows
 line8 = accepted (0xc6 ∷ 0x05 ∷ 0xc8 ∷ 0x45 ∷ 0x4c ∷ 0x4c ∷ 0x4f ∷ []) (group struc (text (0x48 ∷ 0x45 ∷ 0x4c ∷ 0x4c ∷ 0x4f ∷ [])) end)
-    (6 ∷ 1 ∷ 22 ∷ 0 ∷ 7 ∷ 5 ∷ 5 ∷ 3 ∷ 0 ∷ 0x48 ∷ 3 ∷ 0 ∷ 0x45 ∷ 3 ∷ 0 ∷ 0x4c ∷ 3 ∷ 0 ∷ 0x4c ∷ 3 ∷ 0 ∷ 0x4f ∷ [])
+    (1 ∷ 1 ∷ 7 ∷ 1 ∷ 9 ∷ 5 ∷ 0 ∷ 0x48454c4c4f000000 ∷ [])
     (0xc5 ∷ 0x05 ∷ 0x48 ∷ 0x45 ∷ 0x4c ∷ 0x4c ∷ 0x4f ∷ [])
 
 -- C2 02 FF FE: (EMPTY), normal form C2 01 FE
@@ -101,14 +97,14 @@ line9 = accepted (0xc2 ∷ 0x02 ∷ 0xff ∷ 0xfe ∷ []) (group struc (one empt
 unfoldable pub line10 : Example
 unfolding ints text zeroRows
 line10 = accepted (0xc2 ∷ 0x81 ∷ 0x00 ∷ []) (group struc end end)
-    (1 ∷ 1 ∷ 7 ∷ 0 ∷ 7 ∷ 0 ∷ 0 ∷ [])
+    (1 ∷ 1 ∷ 7 ∷ 0 ∷ 9 ∷ 0 ∷ 0 ∷ [])
     (0xc5 ∷ 0x81 ∷ 0x00 ∷ [])
 
 -- C2 01 FF: "", normal form C5 81 00
 unfoldable pub line11 : Example
 unfolding ints text zeroRows
 line11 = accepted (0xc2 ∷ 0x01 ∷ 0xff ∷ []) (group struc end end)
-    (1 ∷ 1 ∷ 7 ∷ 0 ∷ 7 ∷ 0 ∷ 0 ∷ [])
+    (1 ∷ 1 ∷ 7 ∷ 0 ∷ 9 ∷ 0 ∷ 0 ∷ [])
     (0xc5 ∷ 0x81 ∷ 0x00 ∷ [])
 
 -- C2 05 81 C4 02 9E 80: 1, thirty 0s; 32 rows; normal form C2 1F 81, thirty 80
@@ -133,7 +129,7 @@ unfoldable pub ask5 : Example
 unfolding ints text
 ask5 = accepted (0xc5 ∷ 0x06 ∷ 0xc5 ∷ 0x01 ∷ 0x41 ∷ 0xc2 ∷ 0x01 ∷ 0x81 ∷ [])
     (group struc (group struc (text (0x41 ∷ [])) (group struc (ints (1 ∷ [])) end)) end)
-    (5 ∷ 1 ∷ 19 ∷ 0 ∷ 7 ∷ 2 ∷ 4 ∷ 7 ∷ 1 ∷ 1 ∷ 3 ∷ 0 ∷ 0x41 ∷ 7 ∷ 1 ∷ 1 ∷ 1 ∷ 0 ∷ 1 ∷ [])
+    (4 ∷ 1 ∷ 16 ∷ 1 ∷ 7 ∷ 2 ∷ 3 ∷ 9 ∷ 1 ∷ 0 ∷ 7 ∷ 1 ∷ 1 ∷ 1 ∷ 0 ∷ 1 ∷ 0x4100000000000000 ∷ [])
     (0xc2 ∷ 0x06 ∷ 0xc5 ∷ 0x01 ∷ 0x41 ∷ 0xc2 ∷ 0x01 ∷ 0x81 ∷ [])
 
 unfoldable pub examples : List Example
@@ -145,7 +141,7 @@ examples =
 -- round by round.
 unfoldable pub hugeRepeat : Example
 hugeRepeat =
-    accepted (0xc2 ∷ 0x0b ∷ 0xc4 ∷ 0x09 ∷ 0xe0 ∷ 0x7f ∷ replicate 7 0xff) (group struc end end) (1 ∷ 1 ∷ 7 ∷ 0 ∷ 7 ∷ 0 ∷ 0 ∷ []) (0xc5 ∷ 0x81 ∷ 0x00 ∷ [])
+    accepted (0xc2 ∷ 0x0b ∷ 0xc4 ∷ 0x09 ∷ 0xe0 ∷ 0x7f ∷ replicate 7 0xff) (group struc end end) (1 ∷ 1 ∷ 7 ∷ 0 ∷ 9 ∷ 0 ∷ 0 ∷ []) (0xc5 ∷ 0x81 ∷ 0x00 ∷ [])
 
 -- Not named by an ask, but what a reader of Ask 5 could take for its other half: a STRUC that is no string begins no EDT.
 -- C3 05 C2 01 81 81 82: 9 at 0

@@ -29,6 +29,11 @@ pub data Items : Type 0 where
 abbrev pub one : Leaf → Items
 one l = leaf l end
 
+-- a CHAR for each code
+unfoldable pub text : List ℕ → Items
+text [] = end
+text (c ∷ l) = leaf (char c) (text l)
+
 -- the items of one list, then those of the other
 unfoldable pub join : Items → Items → Items
 join end ys = ys

@@ -9,7 +9,7 @@ use Rattle.format.specs.Choice.{pick, ifEq, both}
 use Rattle.format.specs.Numbers.{signed, twos}
 use Rattle.format.specs.Bits.{bit, isOne, spread, packed, wordsFor}
 use Rattle.format.specs.Refusals.{rowLimit, wordLimit}
-use Rattle.format.specs.Items.{Leaf, int, bits, char, bool, empty, xtra, Group, struc, edt, Items, end, leaf, group, leafKind, proper}
+use Rattle.format.specs.Items.{Leaf, int, bits, char, bool, empty, xtra, Group, struc, edt, Items, end, leaf, group, leafKind, isString, proper, text}
 
 -- the items of a list, elements left out: "direct elements", "the number of outermost items"
 unfoldable pub count : Items → ℕ
@@ -17,27 +17,38 @@ count end = 0
 count (leaf l xs) = suc (count xs)
 count (group g c xs) = suc (count xs)
 
--- "Every item is a row, its elements following it in order."
+-- a STRUC that is a string: its elements have no rows of their own
+unfoldable pub isText : Group → Items → Bool
+unfolding isString
+isText struc c = isString c
+isText edt c = false
+
+-- "Every item is a row, its elements following it in order", but "a string becomes one row".
 unfoldable pub rows : Items → ℕ
+unfolding pick isText
 rows end = 0
 rows (leaf l xs) = suc (rows xs)
-rows (group g c xs) = suc (rows c + rows xs)
+rows (group g c xs) = suc (pick (isText g c) 0 (rows c) + rows xs)
 
--- "BITS fill data words in row order, high bit first, each item beginning a new word, spare bits 0."
-unfoldable pub leafWords : Leaf → List ℕ
+-- What an item keeps in the data is a run of bits. "BITS fill data words in row order, high bit first, each item beginning a new
+-- word, spare bits 0." A string: "eight codes to a word, the high byte first, spare bytes 0, each string beginning a new word".
+unfoldable pub inWords : List Bool → List ℕ
 unfolding packed wordsFor
+inWords bs = packed 64 (wordsFor (length bs)) bs
+
+-- so many bits, from the data word `b` on
+unfoldable pub fromWords : ℕ → ℕ → List ℕ → List Bool
+unfolding spread
+fromWords n b ds = take n (spread 64 (drop b ds))
+
+unfoldable pub leafWords : Leaf → List ℕ
+unfolding inWords
 leafWords (int z) = []
-leafWords (bits bs) = packed 64 (wordsFor (length bs)) bs
+leafWords (bits bs) = inWords bs
 leafWords (char c) = []
 leafWords (bool b) = []
 leafWords empty = []
 leafWords (xtra n) = []
-
-unfoldable pub dataWords : Items → List ℕ
-unfolding leafWords
-dataWords end = []
-dataWords (leaf l xs) = leafWords l ++ dataWords xs
-dataWords (group g c xs) = dataWords c ++ dataWords xs
 
 -- the table of kinds: a and b, where `d` data words come before. "A BITS of no bits has as b the data words used so far."
 unfoldable pub leafA : Leaf → ℕ
@@ -57,17 +68,53 @@ leafB d (bool b) = bit b
 leafB d empty = 0
 leafB d (xtra n) = n
 
--- "7 STRUC, 8 EDT": the kind of a row. What a USTRUC goes by (`groupKind`) is another rule, and has the same numbers.
-unfoldable pub rowKind : Group → ℕ
-rowKind struc = 7
-rowKind edt = 8
+-- the codes of CHARs; what stands here for other items makes no difference
+unfoldable pub codes : Items → List ℕ
+unfolding leafB
+codes end = []
+codes (leaf l xs) = leafB 0 l ∷ codes xs
+codes (group g c xs) = 0 ∷ codes xs
+
+-- the data words of codes, of a string, and of a list: "Strings and BITS share the data in row order."
+unfoldable pub letters : List ℕ → List ℕ
+unfolding inWords spread
+letters cs = inWords (spread 8 cs)
+
+unfoldable pub textWords : Items → List ℕ
+unfolding letters codes
+textWords c = letters (codes c)
+
+unfoldable pub dataWords : Items → List ℕ
+unfolding leafWords pick isText textWords
+dataWords end = []
+dataWords (leaf l xs) = leafWords l ++ dataWords xs
+dataWords (group g c xs) = pick (isText g c) (textWords c) (dataWords c) ++ dataWords xs
+
+unfoldable pub groupWords : Group → Items → List ℕ
+unfolding dataWords
+groupWords g c = pick (isText g c) (textWords c) (dataWords c)
+
+-- "7 STRUC, 8 EDT", and Ask 7: "Kind 7 is then never a string." What a USTRUC goes by (`groupKind`) is another rule.
+unfoldable pub boxKind : Group → ℕ
+boxKind struc = 7
+boxKind edt = 8
+
+unfoldable pub rowKind : Group → Items → ℕ
+unfolding pick isText boxKind
+rowKind g c = pick (isText g c) 9 (boxKind g)
+
+-- a group's b: "its first data word", or "rows beneath". "A string of none has as b the data words used so far." Its a are "the
+-- number of characters", or "direct elements": its items are counted either way.
+unfoldable pub groupB : ℕ → Group → Items → ℕ
+unfolding pick isText rows
+groupB d g c = pick (isText g c) d (rows c)
 
 -- the rows of a list, where `d` data words come before
 unfoldable pub rowWords : ℕ → Items → List ℕ
-unfolding leafKind leafA leafB leafWords rowKind count rows dataWords
+unfolding leafKind leafA leafB leafWords rowKind groupB count rows groupWords
 rowWords d end = []
 rowWords d (leaf l xs) = leafKind l ∷ leafA l ∷ leafB d l ∷ rowWords (d + length (leafWords l)) xs
-rowWords d (group g c xs) = rowKind g ∷ count c ∷ rows c ∷ (rowWords d c ++ rowWords (d + length (dataWords c)) xs)
+rowWords d (group g c xs) = rowKind g c ∷ count c ∷ groupB d g c ∷ (pick (isText g c) [] (rowWords d c) ++ rowWords (d + length (groupWords g c)) xs)
 
 -- "word 0 the number of rows R, word 1 the number of outermost items, word 2 the offset of the data, 4 + 3R, word 3 the number
 -- of data words. Rows follow, three words each: kind, a, b."
@@ -83,13 +130,17 @@ wordsNeeded xs = 4 + 3 * rows xs + length (dataWords xs)
 -- Which items a run of words could be the table of: rows and data words are taken at their word. What they claim is held
 -- against the table of these items below, so what stands here for rows that no table has makes no difference.
 unfoldable pub claimedLeaf : ℕ → ℕ → ℕ → List ℕ → Leaf
-unfolding ifEq signed spread isOne
+unfolding ifEq signed fromWords isOne
 claimedLeaf k a b ds =
-    ifEq k 1 (int (signed 8 b)) (ifEq k 2 (bits (take a (spread 64 (drop b ds)))) (ifEq k 3 (char b)
+    ifEq k 1 (int (signed 8 b)) (ifEq k 2 (bits (fromWords a b ds)) (ifEq k 3 (char b)
     (ifEq k 4 (bool (isOne b)) (ifEq k 6 (xtra b) empty))))
 
+unfoldable pub claimedText : ℕ → ℕ → List ℕ → Items
+unfolding text packed fromWords
+claimedText a b ds = text (packed 8 a (fromWords (8 * a) b ds))
+
 unfoldable pub claimed : ℕ → List ℕ → List ℕ → Items
-unfolding ifEq claimedLeaf
+unfolding ifEq claimedLeaf claimedText
 claimed zero ws ds = end
 claimed (suc f) [] ds = end
 claimed (suc f) (k ∷ []) ds = end
@@ -100,8 +151,9 @@ claimed (suc f) (k ∷ a ∷ b ∷ ws) ds =
     let next = claimed f ws ds in
     let as-struc = group struc inside after in
     let as-edt = group edt inside after in
+    let as-text = group struc (claimedText a b ds) next in
     let as-leaf = leaf (claimedLeaf k a b ds) next in
-    ifEq k 7 as-struc (ifEq k 8 as-edt as-leaf)
+    ifEq k 7 as-struc (ifEq k 8 as-edt (ifEq k 9 as-text as-leaf))
 
 unfoldable pub claims : List ℕ → Items
 unfolding claimed

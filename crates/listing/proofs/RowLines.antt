@@ -10,14 +10,15 @@ use lib.Seq.{drop-drop, drop-cons}
 use Rattle.format.specs.Choice.{ifEq, pick}
 use Rattle.format.specs.Numbers.{signed}
 use Rattle.format.specs.Bits.{bit, adjusted, wordsFor}
-use Rattle.format.specs.Items.{Leaf, int, bits, char, bool, empty, xtra, Group, struc, edt, leafKind}
-use Rattle.format.specs.Tables.{leafB, rowKind}
-use Rattle.format.proofs.Choices.{ifLt-yes, ifLt-no, ifEq-no}
-use Rattle.format.proofs.TableLaws.{leaf-kind}
-use Rattle.writer.specs.Rows.{kindAt, aAt, bAt, leafAt, LeafAt}
-use Rattle.writer.proofs.BitRows.{adjusted-div, adjusted-mod}
+use Rattle.format.specs.Items.{Leaf, int, bits, char, bool, empty, xtra, Group, struc, edt, Items, leafKind, isString}
+use Rattle.format.specs.Tables.{leafB, isText, boxKind, rowKind, codes}
+use Rattle.format.proofs.Choices.{ifLt-yes, ifLt-no, ifEq-yes, ifEq-no}
+use Rattle.format.proofs.BitLaws.{adjusted-div, adjusted-mod}
+use Rattle.format.proofs.TableLaws.{leaf-kind, other-kind}
+use Rattle.writer.proofs.Standing.{group-kind}
+use Rattle.writer.specs.Rows.{kindAt, aAt, bAt, leafAt, LeafAt, textAt}
 use Rattle.writer.proofs.LeafForms.{BitsRow, word-at, int-at}
-use Rattle.listing.specs.Lines.{decimal, signedDecimal, bitText, bitsColumn, leafColumns, groupColumns, line, newline}
+use Rattle.listing.specs.Lines.{decimal, signedDecimal, bitText, bitsColumn, leafColumns, groupColumns, textValue, textColumns, line, newline}
 use Rattle.listing.specs.Puts.{Wrote}
 use Rattle.listing.specs.RowTexts.{kindWord, leafBits, leafValue, valueAt, rowText}
 
@@ -100,11 +101,11 @@ abbrev pub NoneTo : ℕ → ℕ → Type 0
 NoneTo zero k = Unit {0}
 NoneTo (suc n) k = NoneTo n k × (k ≡ suc n → ⊥)
 
-pub last-word : (k : ℕ) → NoneTo 7 k → kindWord k ≡ kindWord 8
+pub last-word : (k : ℕ) → NoneTo 7 k → (k ≡ 9 → ⊥) → kindWord k ≡ kindWord 8
 unfolding kindWord ifEq pick
-last-word k r =
+last-word k r n =
     ifEq-no k 1 _ _ (r .0 .0 .0 .0 .0 .0 .1) ∙ ifEq-no k 2 _ _ (r .0 .0 .0 .0 .0 .1) ∙ ifEq-no k 3 _ _ (r .0 .0 .0 .0 .1) ∙ ifEq-no k 4 _ _ (r .0 .0 .0 .1) ∙ ifEq-no k 5 _ _ (r .0 .0 .1)
-    ∙ ifEq-no k 6 _ _ (r .0 .1) ∙ ifEq-no k 7 _ _ (r .1)
+    ∙ ifEq-no k 6 _ _ (r .0 .1) ∙ ifEq-no k 7 _ _ (r .1) ∙ ifEq-no k 9 _ _ n
 
 -- ---- the columns by kind
 leaf-columns : (l : Leaf) → leafColumns l ≡ kindWord (leafKind l) ++ leafValue l
@@ -116,15 +117,14 @@ leaf-columns (bool b) = refl
 leaf-columns empty = refl
 leaf-columns (xtra n) = refl
 
-group-columns : (g : Group) (n : ℕ) → groupColumns g n ≡ kindWord (rowKind g) ++ decimal n
-unfolding groupColumns kindWord rowKind ifEq pick
-group-columns struc n = refl
-group-columns edt n = refl
+group-columns : (g : Group) (c : Items) (n : ℕ) → isText g c ≡ false → groupColumns g n ≡ kindWord (rowKind g c) ++ decimal n
+unfolding groupColumns kindWord rowKind boxKind isText isString ifEq pick
+group-columns struc c n t = rw t refl
+group-columns edt c n t = refl
 
-group-kind : (g : Group) → 7 ≤ rowKind g
-unfolding rowKind
-group-kind struc = omega arith
-group-kind edt = omega arith
+text-columns : (cs : List ℕ) → textColumns cs ≡ kindWord 9 ++ textValue cs
+unfolding textColumns kindWord ifEq pick
+text-columns cs = refl
 
 empty-value : (l : Leaf) → leafKind l ≡ 5 → leafValue l ≡ []
 unfolding leafKind leafValue
@@ -146,9 +146,13 @@ plain-value (xtra n) d i b e = refl
 
 -- ---- what a row has behind its kind
 module _ (w : List ℕ) (p : ℕ) where
-  pub value-group : 7 ≤ kindAt w p → valueAt w p ≡ decimal (aAt w p)
+  pub value-group : 7 ≤ kindAt w p → (kindAt w p ≡ 9 → ⊥) → valueAt w p ≡ decimal (aAt w p)
   unfolding valueAt
-  value-group h = ifLt-no (kindAt w p) 7 _ _ h
+  value-group h n = ifLt-no (kindAt w p) 7 _ _ h ∙ ifEq-no (kindAt w p) 9 _ _ n
+
+  pub value-text : kindAt w p ≡ 9 → valueAt w p ≡ textValue (codes (textAt w p))
+  unfolding valueAt
+  value-text k = ifLt-no (kindAt w p) 7 _ _ (omega arith) ∙ ifEq-yes (kindAt w p) 9 _ _ k
 
   pub value-leaf : kindAt w p < 7 → valueAt w p ≡ leafValue (leafAt w p)
   unfolding valueAt
@@ -174,11 +178,18 @@ module _ (w : List ℕ) (p : ℕ) where
       let v = value-leaf (omega (arith, leaf-kind (leafAt w p))) in
       rw (v, k, leaf-columns (leafAt w p)) (ap (λ z. decimal d ++ z) (sym (append-assoc (kindWord (leafKind (leafAt w p))) (leafValue (leafAt w p)) (newline ∷ []))))
 
-  pub group-line : (d : ℕ) (g : Group) (n : ℕ) → kindAt w p ≡ rowKind g → aAt w p ≡ n → rowText d w p ≡ line d (groupColumns g n)
+  pub group-line : (d : ℕ) (g : Group) (c : Items) (n : ℕ) → isText g c ≡ false → kindAt w p ≡ rowKind g c → aAt w p ≡ n → rowText d w p ≡ line d (groupColumns g n)
   unfolding rowText line
-  group-line d g n k a =
-      let v = value-group (omega (arith, group-kind g)) in
-      rw (v, k, a, group-columns g n) (ap (λ z. decimal d ++ z) (sym (append-assoc (kindWord (rowKind g)) (decimal n) (newline ∷ []))))
+  group-line d g c n t k a =
+      let v = value-group (omega (arith, group-kind g c)) (λ z. other-kind g c t (sym k ∙ z)) in
+      rw (v, k, a, group-columns g c n t) (ap (λ z. decimal d ++ z) (sym (append-assoc (kindWord (rowKind g c)) (decimal n) (newline ∷ []))))
+
+  pub text-line : (d : ℕ) → kindAt w p ≡ 9 → rowText d w p ≡ line d (textColumns (codes (textAt w p)))
+  unfolding rowText line
+  text-line d k =
+      let cs = codes (textAt w p) in
+      let v = value-text k in
+      rw (v, k, text-columns cs) (ap (λ z. decimal d ++ z) (sym (append-assoc (kindWord 9) (textValue cs) (newline ∷ []))))
 
   pub row-length : (d : ℕ) → length (rowText d w p) ≡ length (decimal d) + length (kindWord (kindAt w p)) + length (valueAt w p) + 1
   unfolding rowText

@@ -1,16 +1,17 @@
 -- The text that sheetlist writes: "Columns: depth, kind, then value in decimal (codes for CHAR, BOOL and XTRA), or direct elements
--- for STRUC and EDT; EMPTY has no third column; BITS has the number of bits and, if any, the bits. A refusal is one line".
+-- for STRUC and EDT; EMPTY has no third column; BITS has the number of bits and, if any, the bits; a string the number of
+-- characters and their codes. A refusal is one line".
 use Prim.Native.Nat.{ℕ, zero, suc, _+_, _/_, _%_}
-use mathlib.Core.Bool.{Bool, true, false}
+use mathlib.Core.Bool.{Bool}
 use mathlib.Core.List.{List, [], _∷_, _++_}
 use lib.ListN.{length, replicate}
 use lib.IntN.{ℤ, pos, negsuc}
-use Rattle.format.specs.Choice.{ifLt, ifEq}
+use Rattle.format.specs.Choice.{pick, ifLt, ifEq}
 use Rattle.format.specs.Bits.{bit}
 use Rattle.format.specs.Refusals.{too-long}
 use Rattle.format.specs.Items.{Leaf, int, bits, char, bool, empty, xtra, Group, struc, edt, Items, end, leaf, group}
 use Rattle.format.specs.Messages.{Outcome, refused, says, outcome}
-use Rattle.format.specs.Tables.{count, rows}
+use Rattle.format.specs.Tables.{count, rows, isText, codes}
 use Rattle.format.specs.Answers.{Reading, reading}
 
 -- the digits of a number, as characters; as many tries as the first argument says
@@ -61,16 +62,30 @@ unfolding decimal
 groupColumns struc n = space ∷ 0x53 ∷ 0x54 ∷ 0x52 ∷ 0x55 ∷ 0x43 ∷ space ∷ decimal n
 groupColumns edt n = space ∷ 0x45 ∷ 0x44 ∷ 0x54 ∷ space ∷ decimal n
 
+-- "STRING, the number of characters and then their codes, with one space between"
+unfoldable pub codesColumn : List ℕ → List ℕ
+unfolding decimal
+codesColumn [] = []
+codesColumn (c ∷ cs) = space ∷ (decimal c ++ codesColumn cs)
+
+unfoldable pub textValue : List ℕ → List ℕ
+unfolding decimal codesColumn
+textValue cs = decimal (length cs) ++ codesColumn cs
+
+unfoldable pub textColumns : List ℕ → List ℕ
+unfolding textValue
+textColumns cs = space ∷ 0x53 ∷ 0x54 ∷ 0x52 ∷ 0x49 ∷ 0x4e ∷ 0x47 ∷ space ∷ textValue cs
+
 unfoldable pub line : ℕ → List ℕ → List ℕ
 unfolding decimal
 line d columns = decimal d ++ (columns ++ (newline ∷ []))
 
 -- the lines of a list of items, depth first
 unfoldable pub lines : ℕ → Items → List ℕ
-unfolding line leafColumns groupColumns count
+unfolding line leafColumns groupColumns textColumns count pick isText codes
 lines d end = []
 lines d (leaf l xs) = line d (leafColumns l) ++ lines d xs
-lines d (group g c xs) = line d (groupColumns g (count c)) ++ (lines (suc d) c ++ lines d xs)
+lines d (group g c xs) = pick (isText g c) (line d (textColumns (codes c))) (line d (groupColumns g (count c)) ++ lines (suc d) c) ++ lines d xs
 
 -- "accepted 1 items 4 rows"
 unfoldable pub acceptedText : Items → List ℕ

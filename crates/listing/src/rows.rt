@@ -1,9 +1,10 @@
 // The line of one row of a table, in parts. Each function answers the place behind what it wrote.
-ghost use Prim.Native.Nat.{_+_, _-_, _/_, _%_, _^_, _<_, _≤_};
+ghost use Prim.Native.Nat.{_+_, _-_, _*_, _/_, _%_, _^_, _<_, _≤_};
 ghost use mathlib.Core.Path.{_≡_};
 ghost use lib.ListN.{length};
-ghost use Rattle.writer.specs.Rows.{kindAt, leafAt, LeafAt};
-ghost use Rattle.listing.specs.Lines.{bitText};
+ghost use Rattle.format.specs.Tables.{codes};
+ghost use Rattle.writer.specs.Rows.{kindAt, leafAt, LeafAt, textAt, TextAt};
+ghost use Rattle.listing.specs.Lines.{bitText, codesColumn, textValue};
 ghost use Rattle.listing.specs.Puts.{Wrote};
 ghost use Rattle.listing.specs.RowTexts.{kindWord, leafBits, leafValue, valueAt, rowText, RowAt};
 use crate::digits::put_decimal;
@@ -22,6 +23,7 @@ fn put_word(kind: u64, out: &mut [u8], at: usize) -> usize
         5 => put_text(out, at, b" EMPTY"),
         6 => put_text(out, at, b" XTRA "),
         7 => put_text(out, at, b" STRUC "),
+        9 => put_text(out, at, b" STRING "),
         _ => put_text(out, at, b" EDT "),
     }
 }
@@ -66,7 +68,44 @@ fn put_bits(table: &[u64], p: usize, out: &mut [u8], at: usize) -> usize
     put_stream(table, p, out, n + 1)
 }
 
-// The column behind the kind: nothing for an EMPTY, the number of elements for a STRUC or an EDT.
+// The code `j` of a word, the high byte being the first.
+fn code_of(word: u64, j: u64) -> u64
+    requires { ⌜ j < 8 ⌝ }
+    ensures { λ r. ⌜ r ≡ word / 2 ^ (56 - 8 * j) % 256 ⌝ }
+{
+    (word >> (56 - 8 * j)) % 256
+}
+
+// The codes of a string, each behind a space.
+fn put_codes(table: &[u64], p: usize, out: &mut [u8], at: usize) -> usize
+    requires { ⌜ TextAt (now table) p ⌝ }
+    requires { ⌜ at + length (codesColumn (codes (textAt (now table) p))) ≤ length (now out) ⌝ }
+    ensures { λ r. ⌜ Wrote at (codesColumn (codes (textAt (now (table .entry)) p))) (now (out .entry)) r (now (out .exit)) ⌝ }
+{
+    let count = table[3 * p + 5] as usize;
+    let first = 3 * (table[0] as usize) + 4 + (table[3 * p + 6] as usize);
+    let mut n = at;
+    let mut i: usize = 0;
+    while i < count {
+        let word = table[first + i / 8];
+        out[n] = 0x20;
+        n = put_decimal(out, n + 1, code_of(word, (i % 8) as u64));
+        i += 1;
+    }
+    n
+}
+
+// The number of characters, and their codes.
+fn put_string(table: &[u64], p: usize, out: &mut [u8], at: usize) -> usize
+    requires { ⌜ TextAt (now table) p ⌝ }
+    requires { ⌜ at + length (textValue (codes (textAt (now table) p))) ≤ length (now out) ⌝ }
+    ensures { λ r. ⌜ Wrote at (textValue (codes (textAt (now (table .entry)) p))) (now (out .entry)) r (now (out .exit)) ⌝ }
+{
+    let n = put_decimal(out, at, table[3 * p + 5]);
+    put_codes(table, p, out, n)
+}
+
+// What stands behind the kind: nothing for an EMPTY, the number of elements for a STRUC or an EDT.
 fn put_value(table: &[u64], p: usize, out: &mut [u8], at: usize) -> usize
     requires { ⌜ RowAt (now table) p ⌝ }
     requires { ⌜ at + length (valueAt (now table) p) ≤ length (now out) ⌝ }
@@ -74,6 +113,9 @@ fn put_value(table: &[u64], p: usize, out: &mut [u8], at: usize) -> usize
 {
     let kind = table[3 * p + 4];
     if kind >= 7 {
+        if kind == 9 {
+            return put_string(table, p, out, at);
+        }
         return put_decimal(out, at, table[3 * p + 5]);
     }
     let b = table[3 * p + 6];

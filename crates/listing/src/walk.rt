@@ -1,6 +1,5 @@
 // The lines of a run of rows. Each row is visited once.
 ghost use Prim.Native.Nat.{_+_, _≤_};
-ghost use mathlib.Core.Path.{_≡_};
 ghost use lib.ListN.{length};
 ghost use Rattle.format.specs.Normal.{depth};
 ghost use Rattle.writer.specs.Rows.{Run, itemsAt};
@@ -26,6 +25,10 @@ pub fn put_run(
     while p < to {
         n = put_row(table, p, level, out, n);
         if table[3 * p + 4] < 7 {
+            p += 1;
+            continue;
+        }
+        if table[3 * p + 4] == 9 {
             p += 1;
             continue;
         }

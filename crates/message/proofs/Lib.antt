@@ -7,3 +7,4 @@ pub mod NormaliseExactly
 pub mod Waiting
 pub mod ReadCases
 pub mod WriteCases
+pub mod Strings

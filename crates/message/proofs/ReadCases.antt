@@ -34,7 +34,7 @@ pub read-rows : (o : Outcome) (t : List ℕ) (s : Summary) → Accepted s ≡ an
 unfolding answer sumOf A.readingOf A.laid
 read-rows (refused f) t s e h = let z : _≡_ {A = ℕ} 0 1 = cc in absurd (omega arith)
 read-rows (says xs) t s e h =
-    let r : s .rows ≡ min (rows xs) 65536 = ap (λ (x : Summary). x .rows) (let q : s ≡ sumOf xs = cc in q) in
+    let r : s .rows ≡ min (rows xs) 524288 = ap (λ (x : Summary). x .rows) (let q : s ≡ sumOf xs = cc in q) in
     sym (ifLt-yes rowLimit (rows xs) _ _ (omega arith))
 
 pub read-words : (o : Outcome) (t : List ℕ) (s : Summary) → Accepted s ≡ answer o → s .rows ≤ 16384 → 16384 < s .words
@@ -43,7 +43,7 @@ unfolding answer sumOf A.readingOf A.laid
 read-words (refused f) t s e hr h = let z : _≡_ {A = ℕ} 0 1 = cc in absurd (omega arith)
 read-words (says xs) t s e hr h =
     let q : s ≡ sumOf xs = cc in
-    let r : s .rows ≡ min (rows xs) 65536 = ap (λ (x : Summary). x .rows) q in
+    let r : s .rows ≡ min (rows xs) 524288 = ap (λ (x : Summary). x .rows) q in
     let w : s .words ≡ min (length (dataWords xs)) 65536 = ap (λ (x : Summary). x .words) q in
     sym (ifLt-no rowLimit (rows xs) _ _ (omega arith) ∙ ifLt-yes wordLimit (length (dataWords xs)) _ _ (omega arith))
 
@@ -53,7 +53,7 @@ unfolding answer sumOf A.readingOf A.laid wordsNeeded
 read-room (refused f) t s e hr hw h = let z : _≡_ {A = ℕ} 0 1 = cc in absurd (omega arith)
 read-room (says xs) t s e hr hw h =
     let q : s ≡ sumOf xs = cc in
-    let r : s .rows ≡ min (rows xs) 65536 = ap (λ (x : Summary). x .rows) q in
+    let r : s .rows ≡ min (rows xs) 524288 = ap (λ (x : Summary). x .rows) q in
     let w : s .words ≡ min (length (dataWords xs)) 65536 = ap (λ (x : Summary). x .words) q in
     let n : 4 + 3 * s .rows + s .words ≡ 4 + 3 * rows xs + length (dataWords xs) = omega arith in
     ap (λ k. readTold (readAnswer 11 k) t) n
@@ -66,7 +66,7 @@ unfolding answer sumOf Roomy wordsNeeded
 roomy (refused f) s len e hr hw h = let z : _≡_ {A = ℕ} 0 1 = cc in absurd (omega arith)
 roomy (says xs) s len e hr hw h =
     let q : s ≡ sumOf xs = cc in
-    let r : s .rows ≡ min (rows xs) 65536 = ap (λ (x : Summary). x .rows) q in
+    let r : s .rows ≡ min (rows xs) 524288 = ap (λ (x : Summary). x .rows) q in
     let w : s .words ≡ min (length (dataWords xs)) 65536 = ap (λ (x : Summary). x .words) q in
     (omega arith, omega arith, omega arith, omega arith, omega arith)
 
@@ -76,7 +76,7 @@ unfolding answer sumOf A.readingOf A.laid wordsNeeded laidOut
 read-well (refused f) t s e hr hw h = let z : _≡_ {A = ℕ} 0 1 = cc in absurd (omega arith)
 read-well (says xs) t s e hr hw h =
     let q : s ≡ sumOf xs = cc in
-    let r : s .rows ≡ min (rows xs) 65536 = ap (λ (x : Summary). x .rows) q in
+    let r : s .rows ≡ min (rows xs) 524288 = ap (λ (x : Summary). x .rows) q in
     let w : s .words ≡ min (length (dataWords xs)) 65536 = ap (λ (x : Summary). x .words) q in
     let n : 4 + 3 * s .rows + s .words ≡ 4 + 3 * rows xs + length (dataWords xs) = omega arith in
     ap (λ k. readTold (readAnswer 0 k) (laidOut (says xs) t)) n

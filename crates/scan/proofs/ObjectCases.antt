@@ -12,6 +12,7 @@ use Rattle.format.specs.Choice.{pick, ifEq}
 use Rattle.format.specs.Bits.{spread, bytesFor, wordsFor}
 use Rattle.format.specs.declared.fault.Fault.{Fault}
 use Rattle.format.specs.Refusals.{here, further}
+use Rattle.format.specs.Tables.{isText}
 use Rattle.format.specs.Items.{Items, end, group, struc, edt, one, bits, groupKind, kinds, uniform, edtRule}
 use Rattle.format.specs.Objects as O
 use Rattle.format.specs.Messages.{Outcome, Object, closing, around, object, reads}
@@ -23,12 +24,12 @@ use Rattle.wire.specs.declared.head.Wrap.{Wrap}
 use Rattle.wire.specs.declared.head.Wrap.the-variants.{Struc, Ustruc, Edt, Repeat}
 use Rattle.wire.specs.declared.head.Head.{Head}
 use Rattle.wire.specs.declared.head.Head.the-variants.{Stop, Gap, Row, Short, Long, Text, Open}
-use Rattle.wire.specs.Heads.{HeadIs, bitsFrom, wrapOf}
+use Rattle.wire.specs.Heads.{HeadIs, BitsAt, markedWord, bitsFrom, wrapOf}
 use Rattle.scan.specs.declared.summary.Summary.{Summary}
 use Rattle.scan.specs.declared.Scanned.the-variants.{Refused, Accepted}
 use Rattle.scan.specs.declared.closing.Object as D
 use Rattle.scan.specs.declared.closing.Object.the-variants.{Bad, Got}
-use Rattle.scan.specs.Sums.{cap, lead, sumOf, nothingOf, oneOf, textOf}
+use Rattle.scan.specs.Sums.{lead, sumOf, nothingOf, oneOf, textOf}
 use Rattle.scan.specs.Answer.{answer, answerObject, ustrucFault, edtFault, closedBy, closedOf}
 use Rattle.scan.proofs.KindsMet.{kinds-codes, several}
 use Rattle.scan.proofs.Leads.{edt-leads}
@@ -66,7 +67,7 @@ closed-answer Struc u xs = ap (λ a. Got a u) (sum-struc xs)
 closed-answer Ustruc u xs =
     picked (uniform xs) _ _ ∙ ap (λ a. pick (uniform xs) (Got a u) (Bad (here 8))) (sum-struc xs) ∙ sym (several (kinds xs) _ _ (kinds-codes xs)) ∙ sym (ustruc-by (sumOf xs) _ u)
 closed-answer Edt u xs =
-    picked (edtRule xs) _ _ ∙ ap (λ a. pick (edtRule xs) (Got a u) (Bad (here 9))) (sum-group edt xs) ∙ sym (edt-leads xs _ _) ∙ sym (edt-by (sumOf xs) _ u)
+    picked (edtRule xs) _ _ ∙ ap (λ a. pick (edtRule xs) (Got a u) (Bad (here 9))) (sum-group edt xs (unfold isText in refl)) ∙ sym (edt-leads xs _ _) ∙ sym (edt-by (sumOf xs) _ u)
 closed-answer (Repeat k) u xs = ap (λ a. Got a u) (sum-times k xs)
 
 -- ---- the cases of a head, as the code has them
@@ -123,11 +124,11 @@ module _ (d b : ℕ) (s : List ℕ) (r : Head) (t : HeadIs s r (O.headOf d b s))
   pub text-fits : (a n : ℕ) → r ≡ Text a n → a + n ≤ length s
   text-fits a n e = is (Text a n) e .1
 
-  pub text-is : (a n : ℕ) (z : Summary) → r ≡ Text a n → z ≡ textOf (cap (n + 1)) → Got z (a + n) ≡ answerObject (objectAt d b s)
-  text-is a n z e f =
+  pub text-is : (a n : ℕ) (z : Summary) → length s ≤ 65536 → r ≡ Text a n → z ≡ textOf n → Got z (a + n) ≡ answerObject (objectAt d b s)
+  text-is a n z h e f =
       let x = is (Text a n) e in
       given (group struc (O.characters (O.contents s a n)) end) (a + n) z (x .0)
-      (f ∙ sym (sum-text (O.contents s a n) n (contents-length s a n (x .1))))
+      (f ∙ sym (sum-text (O.contents s a n) n (contents-length s a n (x .1)) (omega (arith, x .1))))
 
   -- a container
   module _ (w : Wrap) (a n : ℕ) (e : r ≡ Open w a n) where
@@ -161,3 +162,8 @@ module _ (d b : ℕ) (s : List ℕ) (r : Head) (t : HeadIs s r (O.headOf d b s))
         let x = accepted-run c inner y in
         f ∙ ap (λ z. closedOf w z (a + n)) (x .2) ∙ sym (closed-answer w (a + n) (x .0))
         ∙ sym (ap answerObject (open-as ∙ ap (around (wrapOf w) a n) (x .1)))
+
+-- an SBITSTR that was told without its head
+pub bits-are : (d b : ℕ) (s : List ℕ) (n : ℕ) → BitsAt b s n → (a : Summary) → a ≡ oneOf 2 1 (wordsFor n) → (u : ℕ) → u ≡ O.following b → Got a u ≡ answerObject (objectAt d b s)
+bits-are d b s n h a f u e =
+    rw e (short-is d b s (Short n (markedWord b s n) (O.following b)) (h .head d) n (markedWord b s n) (O.following b) a refl f)

@@ -28,7 +28,7 @@ use Rattle.scan.specs.declared.summary.Summary.{Summary}
 use Rattle.scan.specs.declared.Scanned.{Scanned}
 use Rattle.scan.specs.declared.Scanned.the-variants.{Refused, Accepted}
 use Rattle.scan.specs.declared.closing.Object.the-variants.{Bad, Got}
-use Rattle.scan.specs.Sums.{cap, sumOf, oneOf, textOf, plusOf, powerOf, secondPower, strucLead, strucOf, edtOf}
+use Rattle.scan.specs.Sums.{capWords, capRows, sumOf, oneOf, textOf, plusOf, powerOf, secondPower, strucLead, strucOf, edtOf}
 use Rattle.scan.specs.Answer.{answer, answerObject, ustrucFault, edtFault, closedBy, closedOf}
 use Rattle.scan.specs.Shorts.{shortObject, asObject, faultOf, shortGroup, textFault}
 use Rattle.scan.proofs.SumLaws.{sum-text}
@@ -69,8 +69,8 @@ chars n = record { rows = n; words = 0; mix = 3; first = 3; second = ifEq n 1 0 
 chars-sum : (n : ℕ) → 0 < n → n ≤ 127 → powerOf n (oneOf 3 1 0) ≡ chars n
 unfolding chars powerOf secondPower
 chars-sum n g h =
-    let r : cap (cap n * cap 1) ≡ n = omega arith in
-    let w : cap (cap n * cap 0) ≡ 0 = omega arith in
+    let r : capRows (capRows n * capRows 1) ≡ n = omega arith in
+    let w : capWords (capWords n * capWords 0) ≡ 0 = omega arith in
     let z : n ≢ 0 = omega arith in
     ifEq-no n 0 _ _ z ∙ rw (r, w) refl
 
@@ -85,12 +85,12 @@ chars-fault n = go (eqb n 1)
 -- a container of n CHARs
 unfoldable shortText : ℕ → ℕ → Scanned
 unfolding ifEq textFault
-shortText b n = ifEq (textFault b) 0 (Accepted (textOf (n + 1))) (Refused (here (textFault b)))
+shortText b n = ifEq (textFault b) 0 (Accepted (textOf n)) (Refused (here (textFault b)))
 
 chars-closed : (b n : ℕ) → n ≤ 127 → shortText b n ≡ shortClosed b (chars n)
 unfolding ifEq shortText textFault shortClosed faultOf ustrucFault shortGroup chars strucOf strucLead
 chars-closed b n h =
-    let r : cap (cap n + cap 1) ≡ n + 1 = omega arith in
+    let r : capRows n ≡ n = omega arith in
     split-eq b 0xc3 (λ e. rw (eq-true b 0xc3 e, chars-fault _) refl)
     (λ n. rw (eq-false b 0xc3 n)
     (split-eq b 0xc5 (λ e. rw (eq-true b 0xc5 e) (ap (λ x. Accepted (textOf x)) (sym r)))
@@ -108,12 +108,11 @@ chars-say d c w =
 
 -- ---- one such object, by its contents c
 module _ (d b : ℕ) (c : List ℕ) where
-  pub string-is : b ≡ 0xc6 → length c ≤ 127 → (a : Summary) → a ≡ textOf (length c + 1)
+  pub string-is : b ≡ 0xc6 → length c ≤ 127 → (a : Summary) → a ≡ textOf (length c)
       → asObject (1 + length c) (Accepted a) ≡ answerObject (shortObject d b c)
   unfolding asObject answerObject shortObject
   string-is e h a f =
-      let r : cap (length c + 1) ≡ length c + 1 = omega arith in
-      rw e (ap (λ z. Got z (1 + length c)) (f ∙ ap textOf (sym r) ∙ sym (sum-text c (length c) refl)))
+      rw e (ap (λ z. Got z (1 + length c)) (f ∙ sym (sum-text c (length c) refl (omega arith))))
 
   -- a container
   module _ (n : b ≢ 0xc6) where
@@ -145,7 +144,7 @@ module _ (d b : ℕ) (c : List ℕ) where
       unfolding shortText
       chars-refused x ex z = ap (asObject (1 + length c)) (ap Refused ex ∙ ap (λ k. Refused (here k)) e ∙ sym (ifEq-no _ _ _ _ (λ y. z (e ∙ y)))) ∙ chars-are
 
-      pub chars-accepted : f ≡ 0 → (a : Summary) → a ≡ textOf (length c + 1) → asObject (1 + length c) (Accepted a) ≡ answerObject (shortObject d b c)
+      pub chars-accepted : f ≡ 0 → (a : Summary) → a ≡ textOf (length c) → asObject (1 + length c) (Accepted a) ≡ answerObject (shortObject d b c)
       unfolding shortText
       chars-accepted z a y = ap (asObject (1 + length c)) (ap Accepted y ∙ sym (ifEq-yes _ _ _ _ (sym e ∙ z))) ∙ chars-are
 

@@ -1,21 +1,22 @@
 -- What lists of items come to: nothing, one item, one list after another, a repeat, a container. Assumes nothing.
-use Prim.Native.Nat.{ℕ, zero, suc, _+_, _*_, _≤_}
+use Prim.Native.Nat.{ℕ, zero, suc, _+_, _*_, _/_, _≤_, _<_, min}
 use native.Mathlib.Omega.{arith}
 use native.Mathlib.Nat.{mul-zero, zero-mul, mul-le-mul-right, mul-le-mul-left}
 use mathlib.Core.Path.{_≡_, refl, sym, ap, _∙_}
-use mathlib.Core.Bool.{Bool, true}
+use mathlib.Core.Bool.{Bool, true, false}
 use mathlib.Core.List.{List, [], _∷_, _++_}
 use lib.ListN.{length, length-append}
+use Rattle.format.specs.Choice.{pick}
 use Rattle.format.specs.Bits.{wordsFor}
 use Rattle.format.specs.Items.{Leaf, bits, Group, struc, Items, end, group, one, join, times, leafKind, groupKind, kinds, isString, behind}
-use Rattle.format.specs.Tables.{rows, leafWords, dataWords}
+use Rattle.format.specs.Tables.{count, isText, rows, inWords, leafWords, textWords, dataWords}
 use Rattle.format.specs.Objects.{characters}
-use Rattle.format.proofs.Choices.{ifEq-no, split}
+use Rattle.format.proofs.Choices.{ifEq-yes, ifEq-no, pick-yes, pick-no, whether, split}
 use Rattle.format.proofs.BitLaws.{packed-length}
+use Rattle.format.proofs.TableLaws.{string-rows, text-length}
 use Rattle.format.proofs.Counts.{times-zero, times-suc, join-end, words, rows-join, words-join, kinds-join, rows-times, words-times}
 use Rattle.scan.specs.declared.summary.Summary.{Summary}
-use Rattle.scan.specs.Sums.{cap, mixOf, lead, sumOf, nothingOf, oneOf, textOf, plusOf, secondSum, secondPower, powerOf, groupOf, strucOf}
-use Rattle.scan.proofs.Told.{sum-rows, sum-words}
+use Rattle.scan.specs.Sums.{capWords, capRows, mixOf, lead, sumOf, nothingOf, elementOf, oneOf, textOf, plusOf, secondSum, secondPower, powerOf, groupOf, strucOf}
 use Rattle.scan.proofs.KindsMet.{mixed-none, mix-append, mix-again}
 use Rattle.scan.proofs.Leads.{lead-join, second-join, lead-times, second-times, struc-lead}
 
@@ -38,42 +39,60 @@ pub sum-row : (l : Leaf) (k : ℕ) → leafKind l ≡ k → leafWords l ≡ [] �
 sum-row l k e f = sum-leaf l k 0 e (ap length f) (omega arith)
 
 pub sum-bits : (bs : List Bool) (n : ℕ) → length bs ≡ n → wordsFor n ≤ 65536 → sumOf (one (bits bs)) ≡ oneOf 2 1 (wordsFor n)
-unfolding leafKind leafWords
+unfolding leafKind leafWords inWords
 sum-bits bs n e h = sum-leaf (bits bs) 2 (wordsFor n) refl (packed-length 64 (wordsFor (length bs)) bs ∙ ap wordsFor e) h
 
-pub sum-group : (g : Group) (xs : Items) → sumOf (group g xs end) ≡ groupOf (groupKind g) (lead (group g xs end)) (sumOf xs)
+-- what a container comes to, whatever its rows and words
+sum-closed : (g : Group) (xs : Items) (r w : ℕ) → capRows (rows (group g xs end)) ≡ r → capWords (words (group g xs end)) ≡ w
+    → sumOf (group g xs end) ≡ elementOf (groupKind g) (lead (group g xs end)) r w
 unfolding sumOf
-sum-group g xs =
-    same-sum _ _ _ _ _ _ _ _ _ _ (omega arith) (omega (arith, length-append (dataWords xs) [])) (mixed-none (groupKind g)) refl refl
+sum-closed g xs r w a b = same-sum _ _ _ _ _ _ _ _ _ _ a b (mixed-none (groupKind g)) refl refl
+
+-- no string
+pub sum-group : (g : Group) (xs : Items) → isText g xs ≡ false → sumOf (group g xs end) ≡ groupOf (groupKind g) (lead (group g xs end)) (sumOf xs)
+unfolding sumOf rows dataWords
+sum-group g xs t =
+    let r : pick (isText g xs) 0 (rows xs) ≡ rows xs = pick-no (isText g xs) 0 (rows xs) t in
+    let w : length (pick (isText g xs) (textWords xs) (dataWords xs)) ≡ words xs = ap length (pick-no (isText g xs) (textWords xs) (dataWords xs) t) in
+    sum-closed g xs _ _ (omega arith) (omega (arith, length-append (pick (isText g xs) (textWords xs) (dataWords xs)) []))
+
+-- a string: one row, and its elements in the data
+sum-string : (xs : Items) → isString xs ≡ true → sumOf (group struc xs end) ≡ textOf (capRows (rows xs))
+unfolding rows dataWords isText wordsFor groupKind lead textOf
+sum-string xs t =
+    let n : rows xs ≡ count xs = string-rows xs t in
+    let r : pick (isString xs) 0 (rows xs) ≡ 0 = pick-yes (isString xs) 0 (rows xs) t in
+    let w : length (pick (isString xs) (textWords xs) (dataWords xs)) ≡ (8 * count xs + 63) / 64 = ap length (pick-yes (isString xs) (textWords xs) (dataWords xs) t) ∙ text-length xs in
+    sum-closed struc xs 1 _ (omega arith) (omega (arith, length-append (pick (isString xs) (textWords xs) (dataWords xs)) []))
+    ∙ ap (λ l. elementOf 7 l 1 (wordsFor (8 * capRows (rows xs)))) (pick-yes (isString xs) 9 7 t)
 
 pub sum-struc : (xs : Items) → sumOf (group struc xs end) ≡ strucOf (sumOf xs)
-unfolding sumOf strucOf groupKind
-sum-struc xs = sum-group struc xs ∙ ap (λ l. groupOf 7 l (sumOf xs)) (sym (struc-lead xs end))
+unfolding sumOf strucOf groupKind isText lead
+sum-struc xs =
+    let e : capRows (capRows (rows xs)) ≡ capRows (rows xs) = omega arith in
+    let l = struc-lead xs end in
+    whether (isString xs)
+    (λ t. sum-string xs t ∙ sym (ifEq-yes _ 9 _ _ (l ∙ pick-yes (isString xs) 9 7 t) ∙ rw e refl))
+    (λ t. sum-group struc xs t ∙ ap (λ m. groupOf 7 m (sumOf xs)) (sym l) ∙ sym (ifEq-no _ 9 _ _ (λ z. other (sym z ∙ l ∙ pick-no (isString xs) 9 7 t))))
+  where
+    other : (_≡_ {A = ℕ} 9 7) → ⊥
+    other z = omega arith
 
--- a string
+-- a string as it is sent by itself
 text-rows : (s : List ℕ) → rows (characters s) ≡ length s
 unfolding rows characters
 text-rows [] = refl
 text-rows (b ∷ s) = ap suc (text-rows s)
-
-text-words : (s : List ℕ) → dataWords (characters s) ≡ []
-unfolding dataWords characters
-text-words [] = refl
-text-words (b ∷ s) = text-words s
 
 text-all : (s : List ℕ) → isString (characters s) ≡ true
 unfolding isString kinds characters
 text-all [] = refl
 text-all (b ∷ s) = text-all s
 
-pub sum-text : (s : List ℕ) (n : ℕ) → length s ≡ n → sumOf (group struc (characters s) end) ≡ textOf (cap (n + 1))
-unfolding groupKind lead
-sum-text s n e = sum-group struc (characters s) ∙ rw (text-all s) (same s n e)
-  where
-    same : (s : List ℕ) (n : ℕ) → length s ≡ n → groupOf 7 9 (sumOf (characters s)) ≡ textOf (cap (n + 1))
-    same s n e =
-        same-sum _ _ _ _ _ _ _ _ _ _ (omega (arith, sum-rows (characters s), text-rows s))
-        (omega (arith, sum-words (characters s), ap length (text-words s))) refl refl refl
+pub sum-text : (s : List ℕ) (n : ℕ) → length s ≡ n → n ≤ 65536 → sumOf (group struc (characters s) end) ≡ textOf n
+sum-text s n e h =
+    let m : capRows (rows (characters s)) ≡ n = omega (arith, text-rows s) in
+    sum-string (characters s) (text-all s) ∙ ap textOf m
 
 -- ---- one list after another
 pub sum-join : (xs ys : Items) → sumOf (join xs ys) ≡ plusOf (sumOf xs) (sumOf ys)
@@ -84,26 +103,34 @@ sum-join xs ys =
     (lead-join xs ys) (second-join xs ys)
 
 -- ---- a repeat
-cap-product : (a b : ℕ) → cap (cap a * cap b) ≡ cap (a * b)
-cap-product a zero = rw (mul-zero a) (ap cap (mul-zero (cap a)))
-cap-product zero (suc b) = rw (zero-mul (suc b)) (ap cap (zero-mul (cap (suc b))))
-cap-product (suc a) (suc b) =
-    split a 65536
-    (λ h. split b 65536
-    (λ g. let p : cap (suc a) ≡ suc a = omega arith in let q : cap (suc b) ≡ suc b = omega arith in rw (p, q) refl)
-    (λ g.
-    let q : cap (suc b) ≡ 65536 = omega arith in
-    let l : 1 * 65536 ≤ cap (suc a) * 65536 = mul-le-mul-right {m = 1} {n = cap (suc a)} 65536 (omega arith) in
-    let m : 1 * suc b ≤ suc a * suc b = mul-le-mul-right {m = 1} {n = suc a} (suc b) (omega arith) in
-    rw q (omega arith)))
-    (λ h.
-    let p : cap (suc a) ≡ 65536 = omega arith in
-    let l : 65536 * 1 ≤ 65536 * cap (suc b) = mul-le-mul-left {m = 1} {n = cap (suc b)} 65536 (omega arith) in
-    let m : suc a * 1 ≤ suc a * suc b = mul-le-mul-left {m = 1} {n = suc b} (suc a) (omega arith) in
-    rw p (omega arith))
+module _ (m : ℕ) (some : 0 < m) where
+  -- up to m
+  abbrev upto : ℕ → ℕ
+  upto n = min n m
 
-cap-times : (f : Items → ℕ) (k : ℕ) (xs : Items) → f (times k xs) ≡ k * f xs → cap (f (times k xs)) ≡ cap (cap k * cap (cap (f xs)))
-cap-times f k xs e = ap cap e ∙ (let c : cap (cap (f xs)) ≡ cap (f xs) = omega arith in rw c (sym (cap-product k (f xs))))
+  cap-product : (a b : ℕ) → upto (upto a * upto b) ≡ upto (a * b)
+  cap-product a zero = let z : upto 0 ≡ 0 = omega arith in rw (z, mul-zero a, mul-zero (upto a)) refl
+  cap-product zero (suc b) = let z : upto 0 ≡ 0 = omega arith in rw (z, zero-mul (suc b), zero-mul (upto (suc b))) refl
+  cap-product (suc a) (suc b) =
+      split a m
+      (λ h. split b m
+      (λ g. let p : upto (suc a) ≡ suc a = omega arith in let q : upto (suc b) ≡ suc b = omega arith in rw (p, q) refl)
+      (λ g.
+      let q : upto (suc b) ≡ m = omega arith in
+      let l : 1 * m ≤ upto (suc a) * m = mul-le-mul-right {m = 1} {n = upto (suc a)} m (omega arith) in
+      let k : 1 * suc b ≤ suc a * suc b = mul-le-mul-right {m = 1} {n = suc a} (suc b) (omega arith) in
+      rw q (both-full (upto (suc a) * m) (suc a * suc b) (omega arith) (omega arith))))
+      (λ h.
+      let p : upto (suc a) ≡ m = omega arith in
+      let l : m * 1 ≤ m * upto (suc b) = mul-le-mul-left {m = 1} {n = upto (suc b)} m (omega arith) in
+      let k : suc a * 1 ≤ suc a * suc b = mul-le-mul-left {m = 1} {n = suc b} (suc a) (omega arith) in
+      rw p (both-full (m * upto (suc b)) (suc a * suc b) (omega arith) (omega arith)))
+    where
+      both-full : (x y : ℕ) → m ≤ x → m ≤ y → upto x ≡ upto y
+      both-full x y p q = omega arith
+
+  cap-times : (f : Items → ℕ) (k : ℕ) (xs : Items) → f (times k xs) ≡ k * f xs → upto (f (times k xs)) ≡ upto (upto k * upto (upto (f xs)))
+  cap-times f k xs e = ap upto e ∙ (let c : upto (upto (f xs)) ≡ upto (f xs) = omega arith in rw c (sym (cap-product k (f xs))))
 
 kinds-suc : (k : ℕ) (xs : Items) → kinds (times (suc k) xs) ≡ kinds xs ++ kinds (times k xs)
 kinds-suc k xs = ap kinds (times-suc k xs) ∙ kinds-join xs (times k xs)
@@ -122,15 +149,17 @@ second-power (suc k) xs = second-times k xs ∙ sym (ifEq-no (suc (suc k)) 1 _ _
 
 sum-power : (k : ℕ) (xs : Items) → sumOf (times (suc k) xs)
     ≡ record {
-      rows = cap (cap (suc k) * cap (sumOf xs .rows));
-      words = cap (cap (suc k) * cap (sumOf xs .words));
+      rows = capRows (capRows (suc k) * capRows (sumOf xs .rows));
+      words = capWords (capWords (suc k) * capWords (sumOf xs .words));
       mix = sumOf xs .mix;
       first = sumOf xs .first;
       second = secondPower (suc k) (sumOf xs);
     }
 unfolding sumOf
 sum-power k xs =
-    same-sum _ _ _ _ _ _ _ _ _ _ (cap-times rows (suc k) xs (rows-times (suc k) xs)) (cap-times words (suc k) xs (words-times (suc k) xs))
+    same-sum _ _ _ _ _ _ _ _ _ _
+    (cap-times 524288 (omega arith) rows (suc k) xs (rows-times (suc k) xs))
+    (cap-times 65536 (omega arith) words (suc k) xs (words-times (suc k) xs))
     (mix-times k xs) (lead-times k xs) (second-power k xs)
 
 pub sum-times : (k : ℕ) (xs : Items) → sumOf (times k xs) ≡ powerOf k (sumOf xs)

@@ -1,25 +1,16 @@
 -- What an answer tells of the meaning: of a run, of an object, and of the rows and data words of what is accepted. Assumes nothing.
-use Prim.Native.Nat.{ℕ, min}
+use Prim.Native.Nat.{ℕ}
 use native.Mathlib.Omega.{arith}
 use mathlib.Core.Path.{_≡_, refl, sym, ap}
-use lib.ListN.{length}
 use Rattle.format.specs.declared.fault.Fault.{Fault}
 use Rattle.format.specs.Items.{Items}
 use Rattle.format.specs.Messages.{Outcome, refused, says, Object, bad, got}
-use Rattle.format.specs.Tables.{rows, dataWords}
+use Rattle.format.specs.Tables.{rows}
 use Rattle.scan.specs.declared.summary.Summary.{Summary}
 use Rattle.scan.specs.declared.Scanned.the-variants.{Refused, Accepted}
 use Rattle.scan.specs.declared.closing.Object.the-variants.{Bad, Got}
 use Rattle.scan.specs.Sums.{sumOf}
 use Rattle.scan.specs.Answer.{answer, answerObject}
-
-pub sum-rows : (xs : Items) → sumOf xs .rows ≡ min (rows xs) 65536
-unfolding sumOf
-sum-rows xs = refl
-
-pub sum-words : (xs : Items) → sumOf xs .words ≡ min (length (dataWords xs)) 65536
-unfolding sumOf
-sum-words xs = refl
 
 -- two constructors are never equal
 never {ℓ} : {A : Type ℓ} → _≡_ {A = ℕ} 0 1 → A

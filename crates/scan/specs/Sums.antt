@@ -4,13 +4,18 @@ use Prim.Native.Nat.{ℕ, _+_, _*_, min}
 use mathlib.Core.List.{List, [], _∷_}
 use lib.ListN.{length}
 use Rattle.format.specs.Choice.{pick, ifEq}
+use Rattle.format.specs.Bits.{wordsFor}
 use Rattle.format.specs.Items.{struc, edt, Items, end, leaf, group, CHAR, STRUC, EDT, leafKind, kinds, isString, behind}
 use Rattle.format.specs.Tables.{rows, dataWords}
 use Rattle.scan.specs.declared.summary.Summary.{Summary}
 
--- rows and data words are counted up to 65,536 and no further
-abbrev pub cap : ℕ → ℕ
-cap n = min n 65536
+-- Data words are counted up to 65,536 and no further, and rows eight times as far: the characters of a string are a row each
+-- until it closes, and then eight of them are a word.
+abbrev pub capWords : ℕ → ℕ
+capWords n = min n 65536
+
+abbrev pub capRows : ℕ → ℕ
+capRows n = min n 524288
 
 -- For a USTRUC, the kinds met: 0 none, 255 several, else the one.
 unfoldable pub mixed : ℕ → ℕ → ℕ
@@ -37,8 +42,8 @@ unfoldable pub sumOf : Items → Summary
 unfolding rows dataWords kinds mixOf lead behind
 sumOf xs =
     record {
-      rows = cap (rows xs);
-      words = cap (length (dataWords xs));
+      rows = capRows (rows xs);
+      words = capWords (length (dataWords xs));
       mix = mixOf (kinds xs);
       first = lead xs;
       second = lead (behind xs);
@@ -52,12 +57,13 @@ nothingOf = record { rows = 0; words = 0; mix = 0; first = 0; second = 0 }
 abbrev pub elementOf : ℕ → ℕ → ℕ → ℕ → Summary
 elementOf k l r d = record { rows = r; words = d; mix = k; first = l; second = 0 }
 
--- one without elements; a string
+-- one without elements; a string of n characters, which is one row with eight bits in the data for each
 abbrev pub oneOf : ℕ → ℕ → ℕ → Summary
 oneOf k r d = elementOf k k r d
 
-abbrev pub textOf : ℕ → Summary
-textOf r = elementOf STRUC STRING r 0
+unfoldable pub textOf : ℕ → Summary
+unfolding wordsFor
+textOf n = elementOf STRUC STRING 1 (wordsFor (8 * n))
 
 unfoldable pub orElse : ℕ → ℕ → ℕ
 unfolding ifEq
@@ -72,8 +78,8 @@ unfoldable pub plusOf : Summary → Summary → Summary
 unfolding mixed orElse secondSum
 plusOf a b =
     record {
-      rows = cap (cap (a .rows) + cap (b .rows));
-      words = cap (cap (a .words) + cap (b .words));
+      rows = capRows (capRows (a .rows) + capRows (b .rows));
+      words = capWords (capWords (a .words) + capWords (b .words));
       mix = mixed (a .mix) (b .mix);
       first = orElse (a .first) (b .first);
       second = secondSum a b;
@@ -89,8 +95,8 @@ unfolding ifEq secondPower
 powerOf k a =
     ifEq k 0 nothingOf
     (record {
-      rows = cap (cap k * cap (a .rows));
-      words = cap (cap k * cap (a .words));
+      rows = capRows (capRows k * capRows (a .rows));
+      words = capWords (capWords k * capWords (a .words));
       mix = a .mix;
       first = a .first;
       second = secondPower k a;
@@ -103,11 +109,12 @@ strucLead m = ifEq m 0 STRING (ifEq m CHAR STRING STRUC)
 
 -- a container of kind k, the lead l
 abbrev pub groupOf : ℕ → ℕ → Summary → Summary
-groupOf k l a = elementOf k l (cap (cap (a .rows) + cap 1)) (cap (a .words))
+groupOf k l a = elementOf k l (capRows (capRows (a .rows) + capRows 1)) (capWords (a .words))
 
+-- a STRUC: of a string the rows so far are its characters
 unfoldable pub strucOf : Summary → Summary
-unfolding strucLead
-strucOf a = groupOf STRUC (strucLead (a .mix)) a
+unfolding ifEq strucLead textOf
+strucOf a = ifEq (strucLead (a .mix)) STRING (textOf (capRows (a .rows))) (groupOf STRUC (strucLead (a .mix)) a)
 
 abbrev pub edtOf : Summary → Summary
 edtOf a = groupOf EDT EDT a

@@ -24,14 +24,15 @@ use stretch::all_chars;
 use stretch::leap_from;
 use summary::Summary;
 use summary::bits_of;
-use summary::capped;
 use summary::nothing;
 use summary::one_of;
 use summary::plus;
 use summary::plus_many;
 use summary::text_of;
+use wire::bits::short_bits;
 use wire::head::Head;
 use wire::head::head_of;
+use wire::integer::following_of;
 use wire::short::is_string;
 use wire::short::short_size;
 
@@ -95,14 +96,14 @@ fn scan_short(depth: usize, b: u8, c: &[u8]) -> Scanned
 {
     let n = c.len();
     if is_string(b) {
-        return Scanned::Accepted(text_of(n + 1));
+        return Scanned::Accepted(text_of(n));
     }
     if all_chars(c) {
         let fault = text_fault(b);
         if fault != 0 {
             return Scanned::Refused(here(fault));
         }
-        return Scanned::Accepted(text_of(n + 1));
+        return Scanned::Accepted(text_of(n));
     }
     let r = scan_run(depth + 1, c);
     match r {
@@ -117,11 +118,16 @@ fn scan_short(depth: usize, b: u8, c: &[u8]) -> Scanned
     }
 }
 
-// The object whose type-byte is b; s are the bytes behind it, up to the end of the enclosing object or of the input.
+// The object whose type-byte is b; s are the bytes behind it, up to the end of the enclosing object or of the input. An SBITSTR is
+// tried first: its head would be written to memory and read again.
 fn scan_object(depth: usize, b: u8, s: &[u8]) -> Object
     requires { ⌜ (length (now s) ≤ 65536) × (depth ≤ 16) ⌝ }
     ensures { λ r. ⌜ r ≡ answerObject (objectAt depth b (now (s .entry))) ⌝ }
 {
+    let bits = short_bits(b, s);
+    if bits > 0 {
+        return Object::Got(bits_of(bits - 1), following_of(b));
+    }
     let h = head_of(depth, b, s);
     match h {
         Head::Stop(f) => Object::Bad(f),
@@ -129,7 +135,7 @@ fn scan_object(depth: usize, b: u8, s: &[u8]) -> Object
         Head::Row(kind, _, past) => Object::Got(one_of(kind as usize, 1, 0), past),
         Head::Short(n, _, past) => Object::Got(bits_of(n), past),
         Head::Long(_, n, past) => Object::Got(bits_of(n), past),
-        Head::Text(a, n) => Object::Got(text_of(capped(n + 1)), a + n),
+        Head::Text(a, n) => Object::Got(text_of(n), a + n),
         Head::Open(w, a, n) => {
             let e = a + n;
             let r = scan_run(depth + 1, &s[a..e]);

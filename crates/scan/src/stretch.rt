@@ -17,6 +17,8 @@ use wire::integer::following_of;
 use wire::integer::is_linteger;
 use wire::integer::is_sinteger;
 use wire::padding::padding_end;
+use wire::span::all_low;
+use wire::span::chars_end;
 use wire::span::until;
 
 // Where a stretch ends, and how many items of what kind it is.
@@ -118,7 +120,7 @@ pub fn all_chars(s: &[u8]) -> bool
     if s[0] >= 0x80 {
         return false;
     }
-    until(s, 0, 0, 0x7f) == s.len()
+    all_low(s)
 }
 
 // The stretch of integers that starts at i.
@@ -140,7 +142,7 @@ pub fn leap_from(s: &[u8], i: usize) -> Leap
     let class = class_of(b);
     match class {
         Class::Char7 => {
-            let e = until(s, i, 0, 0x7f);
+            let e = chars_end(s, i);
             stretch_to(e, CHAR, e - i)
         }
         Class::Sinteger => ints_leap(s, i),

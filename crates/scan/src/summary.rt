@@ -1,8 +1,8 @@
 // What a run of items comes to, counted and not laid out: a repeat's summary is a power of its pattern's.
 ghost use mathlib.Core.Path.{_≡_};
-ghost use Prim.Native.Nat.{_+_, _*_, _/_, _≤_};
+ghost use Prim.Native.Nat.{_+_, _*_, _/_, _≤_, min};
 ghost use Rattle.format.specs.Bits.{wordsFor};
-ghost use Rattle.scan.specs.Sums.{cap, mixed, orElse, secondSum, secondPower, nothingOf, elementOf, oneOf, textOf, plusOf, powerOf, strucLead, groupOf, strucOf, edtOf};
+ghost use Rattle.scan.specs.Sums.{mixed, orElse, secondSum, secondPower, nothingOf, elementOf, oneOf, textOf, plusOf, powerOf, strucLead, groupOf, strucOf, edtOf};
 
 // The kinds, as the table has them.
 pub const INT: usize = 1;
@@ -27,8 +27,14 @@ pub const SEVERAL: usize = 255;
 // In the place of a lead's kind: a string.
 pub const STRING: usize = 9;
 
+// Data words are counted so far and no further, and rows eight times as far: the characters of a string are a row each until it
+// closes, and then eight of them are a word.
+const MOST_WORDS: usize = 65536;
+
+const MOST_ROWS: usize = 524288;
+
 // What is told of a run of elements.
-// For the table: `rows` and `words`, the data words, each counted up to 65,536 and no further.
+// For the table: `rows` and `words`, the data words.
 // For a USTRUC: `mix`, the kinds met: 0 none, SEVERAL, or else the one. The class of an element is enough to know its kind. A STRUC
 // is a string where they are none or CHAR.
 // For an EDT: its leads `first` and `second`, the first two elements: 0 where there is none, STRING, or else the kind.
@@ -40,22 +46,24 @@ pub struct Summary {
     pub second: usize,
 }
 
-pub fn capped(n: usize) -> usize
-    ensures { λ r. ⌜ r ≡ cap n ⌝ }
+fn capped(n: usize, most: usize) -> usize
+    ensures { λ r. ⌜ r ≡ min n most ⌝ }
 {
-    if n <= 65536 { n } else { 65536 }
+    if n <= most { n } else { most }
 }
 
-fn sum_capped(a: usize, b: usize) -> usize
-    ensures { λ r. ⌜ r ≡ cap (cap a + cap b) ⌝ }
+fn sum_capped(a: usize, b: usize, most: usize) -> usize
+    requires { ⌜ most ≤ 524288 ⌝ }
+    ensures { λ r. ⌜ r ≡ min (min a most + min b most) most ⌝ }
 {
-    capped(capped(a) + capped(b))
+    capped(capped(a, most) + capped(b, most), most)
 }
 
-fn product_capped(a: usize, b: usize) -> usize
-    ensures { λ r. ⌜ r ≡ cap (cap a * cap b) ⌝ }
+fn product_capped(a: usize, b: usize, most: usize) -> usize
+    requires { ⌜ most ≤ 524288 ⌝ }
+    ensures { λ r. ⌜ r ≡ min (min a most * min b most) most ⌝ }
 {
-    capped(capped(a) * capped(b))
+    capped(capped(a, most) * capped(b, most), most)
 }
 
 // The kinds met of two runs together.
@@ -124,11 +132,12 @@ pub fn one_of(kind: usize, rows: usize, words: usize) -> Summary
     element(kind, kind, rows, words)
 }
 
-// A string, with its rows.
-pub fn text_of(rows: usize) -> Summary
-    ensures { λ r. ⌜ r ≡ textOf rows ⌝ }
+// A string of n characters: one row, and a data word for each eight of them.
+pub fn text_of(n: usize) -> Summary
+    requires { ⌜ n ≤ 524288 ⌝ }
+    ensures { λ r. ⌜ r ≡ textOf n ⌝ }
 {
-    element(STRUC, STRING, rows, 0)
+    element(STRUC, STRING, 1, (n + 7) / 8)
 }
 
 // A BITS of n bits.
@@ -144,8 +153,8 @@ pub fn plus(a: Summary, b: Summary) -> Summary
     ensures { λ r. ⌜ r ≡ plusOf a b ⌝ }
 {
     Summary {
-        rows: sum_capped(a.rows, b.rows),
-        words: sum_capped(a.words, b.words),
+        rows: sum_capped(a.rows, b.rows, MOST_ROWS),
+        words: sum_capped(a.words, b.words, MOST_WORDS),
         mix: mixed_of(a.mix, b.mix),
         first: or_else(a.first, b.first),
         second: second_of(a, b),
@@ -170,8 +179,8 @@ pub fn power(k: usize, a: Summary) -> Summary
         return nothing();
     }
     Summary {
-        rows: product_capped(k, a.rows),
-        words: product_capped(k, a.words),
+        rows: product_capped(k, a.rows, MOST_ROWS),
+        words: product_capped(k, a.words, MOST_WORDS),
         mix: a.mix,
         first: a.first,
         second: second_power(k, a),
@@ -202,13 +211,23 @@ fn struc_lead(mix: usize) -> usize
 fn group(kind: usize, lead: usize, a: Summary) -> Summary
     ensures { λ r. ⌜ r ≡ groupOf kind lead a ⌝ }
 {
-    element(kind, lead, sum_capped(a.rows, 1), capped(a.words))
+    element(
+        kind,
+        lead,
+        sum_capped(a.rows, 1, MOST_ROWS),
+        capped(a.words, MOST_WORDS),
+    )
 }
 
+// A STRUC around elements that come to a. Of a string every element is a row until it closes: only then it is known for one.
 pub fn struc(a: Summary) -> Summary
     ensures { λ r. ⌜ r ≡ strucOf a ⌝ }
 {
-    group(STRUC, struc_lead(a.mix), a)
+    let lead = struc_lead(a.mix);
+    if lead == STRING {
+        return text_of(capped(a.rows, MOST_ROWS));
+    }
+    group(STRUC, lead, a)
 }
 
 pub fn edt(a: Summary) -> Summary

@@ -8,3 +8,4 @@ pub mod RowsAt
 pub mod Ranges
 pub mod WordLaws
 pub mod ShortLaws
+pub mod MarkedLaws

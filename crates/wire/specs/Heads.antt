@@ -1,5 +1,5 @@
 -- What the code's answers about one object say of its meaning.
-use Prim.Native.Nat.{ℕ, _+_, _-_, _^_, _≤_, _<_}
+use Prim.Native.Nat.{ℕ, _+_, _-_, _*_, _%_, _^_, _≤_, _<_}
 use mathlib.Core.Path.{_≡_}
 use mathlib.Core.Logic.{_≢_}
 use mathlib.Core.Bool.{Bool}
@@ -7,6 +7,7 @@ use mathlib.Core.List.{List, []}
 use lib.Dec.{eqb}
 use lib.ListN.{length, take, drop, getD}
 use Rattle.format.specs.Choice.{ifLt, ifEq, either}
+use Rattle.format.specs.Numbers.{val}
 use Rattle.format.specs.Bits.{spread, adjusted, bytesFor}
 use Rattle.format.specs.Refusals.{here}
 use Rattle.format.specs.Items.{Leaf, bits, struc, end, group, one, leafKind}
@@ -98,6 +99,21 @@ HeadIs s (Short n w u) h = (bs : List Bool) × (h ≡ O.gives (one (bits bs)) u)
 HeadIs s (Long a n u) h = (h ≡ O.gives (one (bits (bitsFrom s a n))) u) × (a + bytesFor n ≡ u) × (u ≤ length s)
 HeadIs s (Text a n) h = (h ≡ O.gives (group struc (O.characters (O.contents s a n)) end) (a + n)) × (a + n ≤ length s)
 HeadIs s (Open w a n) h = (h ≡ O.opens (wrapOf w) a n) × (a + n ≤ length s)
+
+-- the n bits of an SBITSTR, left-adjusted in a word: its bytes as a number, the marker pushed out
+unfoldable pub markedWord : ℕ → List ℕ → ℕ → ℕ
+unfolding val O.following
+markedWord b s n = val (take (O.following b) s) * 2 ^ (64 - n) % 2 ^ 64
+
+-- the type-byte b and the bytes s behind it are an SBITSTR of n bits, however deep it stands
+pub record BitsAt (b : ℕ) (s : List ℕ) (n : ℕ) : Type 0 where
+  pub head : (d : ℕ) → HeadIs s (Short n (markedWord b s n) (O.following b)) (O.headOf d b s)
+  pub within : O.following b ≤ length s
+  pub few : n ≤ 63
+
+-- where r is not 0, it is one more than the bits of such an object
+abbrev pub BitsIs : ℕ → List ℕ → ℕ → Type 0
+BitsIs b s r = 0 < r → BitsAt b s (r - 1)
 
 -- the type-byte of a STRUC, EDT, USTRUC or STRING
 unfoldable pub hasElements : ℕ → Bool

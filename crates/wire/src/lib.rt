@@ -1,4 +1,5 @@
 // What stands at one object's type-byte, read from the bytes. Nothing here goes into contents.
+pub mod bits;
 pub mod head;
 pub mod integer;
 pub mod padding;

@@ -1,8 +1,10 @@
-// Bytes that lie within a range, 64 at a time as long as there are 64.
+// Bytes that lie within a range, 64 at a time as long as there are 64; characters then eight at a time.
 ghost use mathlib.Core.Path.{_≡_};
+ghost use mathlib.Core.Bool.{true};
 ghost use Prim.Native.Nat.{_+_, _≤_, _<_};
 ghost use lib.ListN.{length};
 ghost use Rattle.wire.specs.Ranges.{Between};
+use super::integer::word_at;
 
 // The least and the greatest of some bytes.
 struct Spread {
@@ -75,4 +77,48 @@ pub fn until(s: &[u8], i: usize, lo: u8, hi: u8) -> usize
         e += 1;
     }
     e
+}
+
+// How far from i on words of eight bytes are all below 80 hex.
+fn eights(s: &[u8], i: usize) -> usize
+    requires { ⌜ i ≤ length (now s) ⌝ }
+    ensures { λ r. ⌜ (i ≤ r) × (r ≤ length (now (s .entry))) × Between 0 0x7f i r (now (s .entry)) ⌝ }
+{
+    let mut e = i;
+    while s.len() - e >= 8 {
+        if word_at(s, e) & 0x8080808080808080 != 0 {
+            return e;
+        }
+        e += 8;
+    }
+    e
+}
+
+// Where the bytes from i on that are below 80 hex end.
+pub fn chars_end(s: &[u8], i: usize) -> usize
+    requires { ⌜ i ≤ length (now s) ⌝ }
+    ensures { λ r. ⌜ (i ≤ r) × (r ≤ length (now (s .entry))) × Between 0 0x7f i r (now (s .entry)) ⌝ }
+{
+    let mut e = eights(s, blocks(s, i, 0, 0x7f));
+    while e < s.len() {
+        if s[e] > 0x7f {
+            return e;
+        }
+        e += 1;
+    }
+    e
+}
+
+// Whether all of a few bytes are below 80 hex.
+pub fn all_low(s: &[u8]) -> bool
+    ensures { λ r. ⌜ (r ≡ true → Between 0 0x7f 0 (length (now (s .entry))) (now (s .entry))) ⌝ }
+{
+    let mut e = eights(s, 0);
+    while e < s.len() {
+        if s[e] >= 0x80 {
+            return false;
+        }
+        e += 1;
+    }
+    true
 }

@@ -2,45 +2,22 @@
 -- word is. Assumes nothing.
 use mathlib.Core.Path.{_≡_, refl, sym, ap, ap₂, _∙_}
 use Prim.Native.Nat.{ℕ, zero, suc, _+_, _-_, _*_, _/_, _%_, _^_, _≤_, _<_}
-use native.Mathlib.Nat.{pow-suc, mul-add-div-right, mul-add-mod-self-right, div-eq-of-lt, mod-eq-of-lt, add-zero, div-add-mod', mod-lt, mod-one, div-lt-iff-lt-mul, mod-mod-of-dvd, dvd-mul-right, add-mul, mul-assoc}
+use native.Mathlib.Nat.{pow-suc, mod-eq-of-lt, div-add-mod', mod-lt, div-lt-iff-lt-mul, mod-mod-of-dvd, dvd-mul-right}
 use native.Mathlib.Omega.{arith}
 use mathlib.Core.Bool.{Bool, true, false}
 use mathlib.Core.List.{List, [], _∷_, _++_}
 use lib.ListN.{length, take, drop, getD, length-drop}
-use lib.Seq.{take-append-le, take-append-add, take-all, drop-at, drop-drop, drop-length}
+use lib.Seq.{take-append-le, take-append-add, drop-at, drop-length}
 use lib.Pow.{pow-pos, pow-add}
 use Rattle.format.specs.Numbers.{be}
 use Rattle.format.specs.Bits.{bit, num, bitsOf, spread, adjusted, packed}
-use Rattle.format.proofs.BitLaws.{bit-isOne, bits-length, adjusted-lt}
+use Rattle.format.proofs.BitLaws.{bit-isOne, bits-length, adjusted-lt, zero-adjusted, adjusted-div, adjusted-mod, adjusted-bits}
 use Rattle.format.proofs.Marker.{num-true, pow-bytes}
 
 pub bit-lt : (b : Bool) → bit b < 2
 unfolding bit
 bit-lt true = omega arith
 bit-lt false = omega arith
-
--- ---- a part of what is left-adjusted
-pub zero-adjusted : (w : ℕ) → adjusted w [] ≡ 0
-unfolding adjusted
-zero-adjusted zero = refl
-zero-adjusted (suc w) = refl
-
-pub adjusted-add : (a b : ℕ) (bs : List Bool) → adjusted (a + b) bs ≡ adjusted a bs * 2 ^ b + adjusted b (drop a bs)
-unfolding adjusted
-adjusted-add zero b bs = let e : 0 + b ≡ b = omega arith in rw e (omega arith)
-adjusted-add (suc a) b [] = let e : suc a + b ≡ suc (a + b) = omega arith in rw (e, zero-adjusted b) (omega arith)
-adjusted-add (suc a) b (x ∷ bs) =
-    let e : suc a + b ≡ suc (a + b) = omega arith in
-    rw (e, adjusted-add a b bs, pow-add 2 a b, add-mul, mul-assoc) (omega arith)
-
-pub adjusted-div : (a b : ℕ) (bs : List Bool) → adjusted (a + b) bs / 2 ^ b ≡ adjusted a bs
-adjusted-div a b bs =
-    ap (λ z. z / 2 ^ b) (adjusted-add a b bs) ∙ mul-add-div-right (pow-pos b) (adjusted a bs) (adjusted b (drop a bs))
-    ∙ ap (λ z. adjusted a bs + z) (div-eq-of-lt (adjusted-lt b (drop a bs))) ∙ add-zero (adjusted a bs)
-
-pub adjusted-mod : (a b : ℕ) (bs : List Bool) → adjusted (a + b) bs % 2 ^ b ≡ adjusted b (drop a bs)
-adjusted-mod a b bs =
-    ap (λ z. z % 2 ^ b) (adjusted-add a b bs) ∙ mul-add-mod-self-right (adjusted a bs) (2 ^ b) (adjusted b (drop a bs)) ∙ mod-eq-of-lt (adjusted-lt b (drop a bs))
 
 -- the bits behind a last one are 0
 pub spare-zero : (n w : ℕ) (bs : List Bool) → length bs ≡ n → n ≤ w → adjusted w bs % 2 ^ (w - n) ≡ 0
@@ -56,32 +33,19 @@ pow-mod k n x h =
     rw e (mod-mod-of-dvd (2 ^ (k - n)) x (dvd-mul-right (2 ^ (k - n)) (2 ^ n)))
 
 -- the first n bits of a number whose other bits are 0
-pub adjusted-bits : (w n x : ℕ) → n ≤ w → x < 2 ^ w → x % 2 ^ (w - n) ≡ 0 → adjusted w (take n (bitsOf w x)) ≡ x
+adjusted-first : (w n x : ℕ) → n ≤ w → x < 2 ^ w → x % 2 ^ (w - n) ≡ 0 → adjusted w (take n (bitsOf w x)) ≡ x
 unfolding bitsOf adjusted
-adjusted-bits zero zero x h l z = omega arith
-adjusted-bits zero (suc n) x h l z = absurd (omega arith)
-adjusted-bits (suc w) zero x h l z =
+adjusted-first zero zero x h l z = omega arith
+adjusted-first zero (suc n) x h l z = absurd (omega arith)
+adjusted-first (suc w) zero x h l z =
     let e : suc w - 0 ≡ suc w = omega arith in
     let y : x % 2 ^ suc w ≡ 0 = rw e at z in
     sym y ∙ mod-eq-of-lt l
-adjusted-bits (suc w) (suc n) x h l z =
+adjusted-first (suc w) (suc n) x h l z =
     let e : suc w - suc n ≡ w - n = omega arith in
     let y : x % 2 ^ (w - n) ≡ 0 = rw e at z in
     let t : x / 2 ^ w < 2 = div-lt-iff-lt-mul (pow-pos w) .1 (omega (arith, pow-suc 2 w)) in
-    rw (bit-isOne (x / 2 ^ w) t, adjusted-bits w n (x % 2 ^ w) (omega arith) (mod-lt x (pow-pos w)) (pow-mod w n x (omega arith) ∙ y)) (div-add-mod' x (2 ^ w))
-
-adjusted-append : (w : ℕ) (a b : List Bool) → length a ≡ w → adjusted w (a ++ b) ≡ adjusted w a
-unfolding adjusted
-adjusted-append zero a b e = refl
-adjusted-append (suc w) [] b e = absurd (omega arith)
-adjusted-append (suc w) (x ∷ a) b e = ap (λ z. bit x * 2 ^ w + z) (adjusted-append w a b (omega arith))
-
--- a whole number of w bits, with others behind it
-adjusted-whole : (w x : ℕ) (bs : List Bool) → x < 2 ^ w → adjusted w (bitsOf w x ++ bs) ≡ x
-adjusted-whole w x bs l =
-    let n = bits-length w x in
-    let z : w - w ≡ 0 = omega arith in
-    adjusted-append w (bitsOf w x) bs n ∙ ap (adjusted w) (sym (take-all w (bitsOf w x) (omega arith))) ∙ adjusted-bits w w x (omega arith) l (rw z (mod-one x))
+    rw (bit-isOne (x / 2 ^ w) t, adjusted-first w n (x % 2 ^ w) (omega arith) (mod-lt x (pow-pos w)) (pow-mod w n x (omega arith) ∙ y)) (div-add-mod' x (2 ^ w))
 
 -- words are those of their first n bits, where the spare bits of the last are 0
 pub words-back : (k n : ℕ) (ws : List ℕ) → length ws ≡ k → n ≤ 64 * k → 64 * k < n + 64 → ((i : ℕ) → i < k → getD ws i 0 < 2 ^ 64) →
@@ -92,7 +56,7 @@ words-back zero n (x ∷ ws) e h l b z = absurd (omega arith)
 words-back (suc k) n [] e h l b z = absurd (omega arith)
 words-back (suc zero) n (x ∷ []) e h l b z =
     let m = bits-length 64 x in
-    ap (λ t. t ∷ []) (ap (adjusted 64) (take-append-le n (bitsOf 64 x) [] (omega arith)) ∙ adjusted-bits 64 n x (omega arith) (b 0 (omega arith)) z)
+    ap (λ t. t ∷ []) (ap (adjusted 64) (take-append-le n (bitsOf 64 x) [] (omega arith)) ∙ adjusted-first 64 n x (omega arith) (b 0 (omega arith)) z)
 words-back (suc zero) n (x ∷ y ∷ ws) e h l b z = absurd (omega arith)
 words-back (suc (suc k)) n (x ∷ ws) e h l b z =
     let m = bits-length 64 x in
@@ -101,7 +65,7 @@ words-back (suc (suc k)) n (x ∷ ws) e h l b z =
     let s : 64 * suc (suc k) - n ≡ 64 * suc k - (n - 64) = omega arith in
     let q1 : suc (suc k) - 1 ≡ suc k = omega arith in
     let r : suc k - 1 ≡ k = omega arith in
-    ap₂ _∷_ (ap (adjusted 64) t ∙ adjusted-whole 64 x (take (n - 64) (spread 64 ws)) (b 0 (omega arith)))
+    ap₂ _∷_ (ap (adjusted 64) t ∙ adjusted-bits 64 x (take (n - 64) (spread 64 ws)) (b 0 (omega arith)))
     (ap (λ j. packed 64 (suc k) (drop 64 j)) t ∙ ap (packed 64 (suc k)) (drop-at (bitsOf 64 x) (take (n - 64) (spread 64 ws)) 64 m)
     ∙ words-back (suc k) (n - 64) ws (omega arith) (omega arith) (omega arith) (λ i v. b (suc i) (omega arith)) (rw r (rw (q1, s) at z)))
 
@@ -116,15 +80,6 @@ last-spare (suc (suc k)) n bs e h l =
     let r : suc k - 1 ≡ k = omega arith in
     rw (s, q1) (rw r at (last-spare (suc k) (n - 64) (drop 64 bs) (length-drop 64 bs ∙ omega arith) (omega arith) (omega arith)))
 
--- ---- one word, and one byte
-pub packed-at : (w k : ℕ) (bs : List Bool) (i : ℕ) → i < k → getD (packed w k bs) i 0 ≡ adjusted w (drop (w * i) bs)
-unfolding packed
-packed-at w zero bs i h = absurd (omega arith)
-packed-at w (suc k) bs zero h = let e : w * 0 ≡ 0 = omega arith in rw e refl
-packed-at w (suc k) bs (suc i) h =
-    let e : w * suc i ≡ w + w * i = native.Mathlib.Nat.mul-suc w i ∙ omega arith in
-    packed-at w k (drop w bs) i (omega arith) ∙ ap (adjusted w) (drop-drop (w * i) w bs ∙ ap (λ z. drop z bs) (sym e))
-
 -- the bits behind a marker, from their word
 pub marked-word : (n : ℕ) (bs : List Bool) → length bs ≡ n → n ≤ 64 → num (true ∷ bs) ≡ 2 ^ n + adjusted 64 bs / 2 ^ (64 - n)
 unfolding num
@@ -133,19 +88,6 @@ marked-word n bs e h =
     num-true bs ∙ ap₂ _+_ (ap (λ z. 2 ^ z) e) (ap (λ z. adjusted z bs) e ∙ sym (ap (λ z. adjusted z bs / 2 ^ (64 - n)) (sym q) ∙ adjusted-div n (64 - n) bs))
 
 -- ---- a word's bytes
--- the first ones, and those behind them
-pub packed-parts : (w j k : ℕ) (bs : List Bool) → packed w (j + k) bs ≡ packed w j bs ++ packed w k (drop (w * j) bs)
-unfolding packed
-packed-parts w zero k bs =
-    let e : 0 + k ≡ k = omega arith in
-    let z : w * 0 ≡ 0 = omega arith in
-    ap (λ n. packed w n bs) e ∙ ap (λ n. packed w k (drop n bs)) (sym z)
-packed-parts w (suc j) k bs =
-    let e : suc j + k ≡ suc (j + k) = omega arith in
-    let z : w + w * j ≡ w * suc j = sym (native.Mathlib.Nat.mul-suc w j ∙ omega arith) in
-    ap (λ n. packed w n bs) e
-    ∙ ap (λ l. adjusted w bs ∷ l) (packed-parts w j k (drop w bs) ∙ ap (λ l. packed w j (drop w bs) ++ packed w k l) (drop-drop (w * j) w bs ∙ ap (λ n. drop n bs) z))
-
 pub packed-be : (k : ℕ) (bs : List Bool) → packed 8 k bs ≡ be k (adjusted (8 * k) bs)
 unfolding packed be
 packed-be zero bs = refl

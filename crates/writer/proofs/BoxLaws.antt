@@ -6,18 +6,14 @@ use native.Mathlib.Omega.{arith}
 use lib.ListN.{length, take, drop}
 use Rattle.format.specs.Normal.{normalSize, withSize, normal}
 use Rattle.format.specs.Answers.{over}
-use Rattle.writer.specs.Rows.{itemsAt, Run, allChars}
+use Rattle.writer.specs.Rows.{aAt, itemsAt, textAt, TextAt}
 use Rattle.writer.specs.Measures.{Fits, FitsBox, headByte, moved}
-use mathlib.Core.Bool.{true}
 use Rattle.writer.proofs.Over.{part-length, lent}
 use Rattle.writer.proofs.RunLaws.{box-length}
-use Rattle.writer.proofs.StringLaws.{chars-are}
+use Rattle.writer.proofs.StringLaws.{string-size}
+use Rattle.writer.proofs.WordLaws.{text-kept}
 use Rattle.writer.proofs.Moving.{box-written}
-use Rattle.writer.proofs.WriteLaws.{string-head, least-size}
-
--- a head byte of 0xc5 is that of a string
-pub box-string : (w : List ℕ) (p e kind b : ℕ) → Run w p e → b ≡ headByte kind (itemsAt w p e) → b ≡ 0xc5 → allChars w p e ≡ true
-box-string w p e kind b r h k = chars-are w p e r ∙ string-head kind (itemsAt w p e) (sym h ∙ k)
+use Rattle.writer.proofs.WriteLaws.{least-size}
 
 -- the bytes that so many rows' size takes at least, k bytes of contents, and the h bytes that their size takes
 pub record Boxing (w : List ℕ) (p e n g k h : ℕ) : Type 0 where
@@ -47,10 +43,10 @@ module _ (w : List ℕ) (p e d : ℕ) (o : List ℕ) (g : ℕ) (f : FitsBox w p 
       record { run = f .run; shallow = omega arith; room = omega (arith, part-length (1 + g) o, b .least, b .room) }
 
   -- the contents come back in the part lent for them, are moved on, and get their head
-  pub box-done : (kind b k h : ℕ) (ys t u : List ℕ) → k ≡ length (normal (itemsAt w p e)) → h ≡ length (normalSize k) → b ≡ headByte kind (itemsAt w p e) →
+  pub box-done : (kind b k h : ℕ) (ys t u : List ℕ) → k ≡ length (normal (itemsAt w p e)) → h ≡ length (normalSize k) → b ≡ headByte kind →
       ys ≡ over (normal (itemsAt w p e)) (take (length o - (1 + g)) (drop (1 + g) o)) →
       t ≡ moved (1 + g) k (h - g) (take (1 + g) o ++ (ys ++ drop (length o - (1 + g)) (drop (1 + g) o))) → u ≡ over (b ∷ normalSize k) t →
-      (1 + h + k ≡ 1 + length (withSize (normal (itemsAt w p e)))) × (u ≡ over (headByte kind (itemsAt w p e) ∷ withSize (normal (itemsAt w p e))) o)
+      (1 + h + k ≡ 1 + length (withSize (normal (itemsAt w p e)))) × (u ≡ over (headByte kind ∷ withSize (normal (itemsAt w p e))) o)
   unfolding withSize
   box-done kind b k h ys t u ek eh eb ey et eu =
       let c = normal (itemsAt w p e) in
@@ -62,3 +58,14 @@ module _ (w : List ℕ) (p e d : ℕ) (o : List ℕ) (g : ℕ) (f : FitsBox w p 
             ∙ box-written o c s (normalSize (length c)) b g h z (r .least) (omega (arith, r .room)) (lent (1 + g) o c ys ey)
             ∙ ap (λ x. over (x ∷ (normalSize (length c) ++ c)) o) eb,
       )
+
+-- a string in its container
+pub record TextBox (w : List ℕ) (p : ℕ) : Type 0 where
+  pub size : length (normal (textAt w p)) ≡ aAt w p
+  pub whole : 1 + length (withSize (normal (textAt w p))) ≡ 1 + length (normalSize (aAt w p)) + aAt w p
+  pub small : aAt w p ≤ 131072
+
+pub text-box : (w : List ℕ) (p : ℕ) → TextAt w p → TextBox w p
+text-box w p h =
+    let e : length (normal (textAt w p)) ≡ aAt w p = string-size (textAt w p) (h .row .chars) ∙ sym (h .row .a) in
+    record { size = e; whole = box-length (textAt w p) ∙ ap (λ n. 1 + length (normalSize n) + n) e; small = let k = text-kept w p h .0 .small in omega arith }

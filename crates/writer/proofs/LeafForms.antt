@@ -18,12 +18,12 @@ use Rattle.format.specs.Tables.{leafA, leafB, leafWords, claimedLeaf}
 use Rattle.format.specs.Normal.{normalSize, withSize, normalInt, sbitstr, normalBits, normalLeaf}
 use Rattle.format.proofs.Choices.{ifLt-yes, ifLt-no, ifEq-yes, ifEq-no, split, true-lt}
 use Rattle.format.proofs.Digits.{be-length, width-fits, width-least, mag-signed}
-use Rattle.format.proofs.BitLaws.{packed-length, words-enough}
+use Rattle.format.proofs.BitLaws.{packed-length, packed-at, words-enough}
 use Rattle.format.proofs.Marker.{marker-ge, marker-lt}
 use Rattle.writer.specs.Rows.{kindAt, aAt, bAt, dataOf, LeafRow, leafAt, LeafAt}
 use Rattle.writer.specs.Forms.{longSize, bitsLength, marker, leafBytes, counted, plainByte}
 use Rattle.writer.proofs.NumberLaws.{width-log, int-length-small, int-length-large}
-use Rattle.writer.proofs.BitRows.{bit-lt, packed-at, marked-word}
+use Rattle.writer.proofs.BitRows.{bit-lt, marked-word}
 
 -- ---- the leaf of a row by its kind
 pub int-at : (w : List ℕ) (p : ℕ) → kindAt w p ≡ 1 → leafAt w p ≡ int (signed 8 (bAt w p))
@@ -60,17 +60,19 @@ bits-at w p h k =
       small = omega (arith, words-enough (length bs));
     }
 
--- a data word of a BITS, where the code finds it
+-- a data word among the k from b on that hold bits, where the code finds it; and one of a BITS
+pub stored-word : (w : List ℕ) (b k : ℕ) (bs : List Bool) (m : List ℕ) → drop b (dataOf w) ≡ packed 64 k bs ++ m → (i : ℕ) → i < k →
+    getD w (3 * getD w 0 0 + 4 + b + i) 0 ≡ adjusted 64 (drop (64 * i) bs)
+stored-word w b k bs m q i h =
+    let e : 3 * getD w 0 0 + 4 + b + i ≡ 4 + 3 * getD w 0 0 + (b + i) = omega arith in
+    ap (λ z. getD w z 0) e ∙ sym (getD-drop b (dataOf w) i 0 ∙ getD-drop (4 + 3 * getD w 0 0) w (b + i) 0)
+    ∙ ap (λ z. getD z i 0) q
+    ∙ List·getD-append (packed 64 k bs) m 0 i (omega (arith, packed-length 64 k bs))
+    ∙ packed-at 64 k bs i h
+
 pub word-at : (w : List ℕ) (p : ℕ) (r : BitsRow w p) (i : ℕ) → i < wordsFor (length (r .stream)) →
     getD w (3 * getD w 0 0 + 4 + bAt w p + i) 0 ≡ adjusted 64 (drop (64 * i) (r .stream))
-word-at w p r i h =
-    let bs = r .stream in
-    let k = wordsFor (length bs) in
-    let e : 3 * getD w 0 0 + 4 + bAt w p + i ≡ 4 + 3 * getD w 0 0 + (bAt w p + i) = omega arith in
-    ap (λ z. getD w z 0) e ∙ sym (getD-drop (bAt w p) (dataOf w) i 0 ∙ getD-drop (4 + 3 * getD w 0 0) w (bAt w p + i) 0)
-    ∙ ap (λ z. getD z i 0) (r .words)
-    ∙ List·getD-append (packed 64 k bs) (drop (bAt w p + k) (dataOf w)) 0 i (omega (arith, packed-length 64 k bs))
-    ∙ packed-at 64 k bs i h
+word-at w p r = stored-word w (bAt w p) (wordsFor (length (r .stream))) (r .stream) _ (r .words)
 
 -- ---- SBITSTR
 pub marked-none : (w : List ℕ) (p : ℕ) (r : BitsRow w p) → aAt w p ≡ 0 → 1 ≡ marker (leafAt w p)

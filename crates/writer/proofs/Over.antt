@@ -123,3 +123,7 @@ module _ (t : List ℕ) (a b c d : ℕ) where
       let s6 = over-snoc 0 f t (a ∷ b ∷ c ∷ d ∷ e ∷ []) (set s4 4 e) s5 (omega arith) in
       let s7 = over-snoc 0 g t (a ∷ b ∷ c ∷ d ∷ e ∷ f ∷ []) (set (set s4 4 e) 5 f) s6 (omega arith) in
       over-snoc 0 i t (a ∷ b ∷ c ∷ d ∷ e ∷ f ∷ g ∷ []) (set (set (set s4 4 e) 5 f) 6 g) s7 (omega arith)
+
+-- the same bytes by another name
+pub over-as : (l m t u : List ℕ) → l ≡ m → u ≡ over m t → u ≡ over l t
+over-as l m t u e h = h ∙ ap (λ z. over z t) (sym e)

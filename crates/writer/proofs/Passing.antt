@@ -1,22 +1,22 @@
 -- Rows passed one after another: items that stand in them, and what they add to what stands behind them. Assumes nothing.
 use mathlib.Core.Path.{_≡_, refl, sym, _∙_, ap, subst}
 use mathlib.Core.List.{List}
-use mathlib.Core.Bool.{true}
 use Prim.Native.Nat.{ℕ, suc, _+_, _-_, _<_, _≤_}
 use native.Mathlib.Omega.{arith}
 use lib.ListN.{length, length-append}
-use Rattle.format.specs.Items.{Leaf, Group, Items, end, leaf, group, properGroup}
-use Rattle.format.specs.Tables.{count, rows, leafWords, dataWords, rowKind}
+use Rattle.format.specs.Items.{Leaf, Group, struc, Items, end, leaf, group}
+use Rattle.format.specs.Tables.{count, rows, isText, leafWords, textWords, dataWords}
 use Rattle.format.specs.Normal.{normalSize, withSize, normalLeaf, normal, depth}
-use Rattle.format.proofs.TableLaws.{leaf-kind}
-use Rattle.writer.specs.Rows.{kindAt, aAt, bAt, Stands, LeafRow, Header}
+use Rattle.format.proofs.Choices.{whether}
+use Rattle.format.proofs.TableLaws.{leaf-kind, other-kind}
+use Rattle.writer.specs.Rows.{kindAt, aAt, bAt, Stands, LeafRow, TextRow, Header}
 use Rattle.writer.specs.Surveys.{Placed, Longer, Shorter, Passed}
-use Rattle.writer.proofs.KindLaws.{edt-is}
-use Rattle.writer.proofs.Standing.{group-kind, leaf-parts, group-parts, join-leaf, join-group, stands-is, leaf-is, none-stands}
-use Rattle.writer.proofs.Judging.{KindOk}
+use Rattle.writer.proofs.KindLaws.{group-row, string-is, edt-is}
+use Rattle.writer.proofs.Standing.{group-kind, group-data, text-data, text-struc, leaf-parts, group-parts, text-parts, join-leaf, join-group, join-text, stands-is, leaf-is, text-is, none-stands}
+use Rattle.writer.proofs.Judging.{GroupKind, KindOk}
+use Rattle.writer.proofs.StringLaws.{string-flat, string-size}
 use Rattle.writer.proofs.RunLaws.{normal-bound, box-length}
 
--- ---- no rows, and some after others
 pub passed-none : (w : List ℕ) (D d u p : ℕ) → u ≤ D → Passed w D d u p u p 0 0
 passed-none w D d u p h =
     record {
@@ -66,7 +66,7 @@ module _ (w : List ℕ) (D u p : ℕ) where
   leaf-back-on : (l : Leaf) → LeafRow w u p l → (e : ℕ) (xs : Items) → p + 1 ≤ e → Placed w D u p e xs → Shorter w D (u + length (leafWords l)) (p + 1) e xs
   unfolding rows dataWords depth
   leaf-back-on l r e end h x = absurd (omega (arith, x .stands .number))
-  leaf-back-on l r e (group g c xs) h x = absurd (omega (arith, r .kind, leaf-kind l, group-kind g, group-parts w u p e g c xs (x .stands) .kind))
+  leaf-back-on l r e (group g c xs) h x = absurd (omega (arith, r .kind, leaf-kind l, group-kind g c, group-row w u p e g c xs (x .stands) .0))
   leaf-back-on l r e (leaf k xs) h x =
       let s = leaf-parts w u p e k xs (x .stands) in
       let q : k ≡ l = sym (leaf-is w u p e k (s .0)) ∙ leaf-is w u p e l r in
@@ -101,10 +101,72 @@ module _ (w : List ℕ) (D u p : ℕ) where
   pub no-leaf : (e : ℕ) → p < e → kindAt w p < 7 → ((l : Leaf) → LeafRow w u p l → u + length (leafWords l) ≤ D → ⊥) → (xs : Items) → Placed w D u p e xs → ⊥
   unfolding rows dataWords
   no-leaf e h k f end x = absurd (omega (arith, x .stands .number))
-  no-leaf e h k f (group g c xs) x = absurd (omega (arith, group-kind g, group-parts w u p e g c xs (x .stands) .kind))
+  no-leaf e h k f (group g c xs) x = absurd (omega (arith, group-kind g c, group-row w u p e g c xs (x .stands) .0))
   no-leaf e h k f (leaf l xs) x =
       let b = x .fits in
       f l (leaf-parts w u p e l xs (x .stands) .0) (omega (arith, length-append (leafWords l) (dataWords xs)))
+
+-- ---- one string
+module _ (w : List ℕ) (D u p : ℕ) where
+  text-back-on : (c : Items) → TextRow w u p c → (e : ℕ) (xs : Items) → p + 1 ≤ e → Placed w D u p e xs → Shorter w D (u + length (textWords c)) (p + 1) e xs
+  unfolding rows depth
+  text-back-on c r e end h x = absurd (omega (arith, x .stands .number))
+  text-back-on c r e (leaf l xs) h x = absurd (omega (arith, r .kind, leaf-kind l, leaf-parts w u p e l xs (x .stands) .0 .kind))
+  text-back-on c r e (group g k xs) h x =
+      whether (isText g k)
+      (λ t.
+      let s = text-parts w u p e g k xs t (x .stands) in
+      let q : k ≡ c = sym (text-is w u p k (s .0)) ∙ text-is w u p c r in
+      let f = x .fits in
+      let n = ap length (text-data g k xs t) ∙ length-append (textWords k) (dataWords xs) in
+      let m : u + length (textWords k) ≡ u + length (textWords c) = ap (λ z. u + length (textWords z)) q in
+      record { items = xs; placed = record { stands = rw m at (s .1); fits = omega arith }; shallow = omega arith })
+      (λ t. absurd (other-kind g k t (sym (group-row w u p e g k xs (x .stands) .0) ∙ r .kind)))
+
+  text-passed : (d : ℕ) (c : Items) → TextRow w u p c → u + length (textWords c) ≤ D → Passed w D (suc d) u p (u + length (textWords c)) (p + 1) 1 (1 + length (normalSize (count c)) + count c)
+  unfolding count normal depth
+  text-passed d c r h =
+      let z = string-size c (r .chars) in
+      let b = box-length c in
+      let i : length (normalSize (length (normal c))) ≡ length (normalSize (count c)) = ap (λ k. length (normalSize k)) z in
+      let y = string-flat c (r .chars) in
+      record {
+        onward = omega arith;
+        fits = h;
+        forth = λ e ys f.
+            let g = f .fits in
+            let n = ap length (text-data struc c ys (text-struc c (r .chars))) ∙ length-append (textWords c) (dataWords ys) in
+            record {
+              items = group struc c ys;
+              placed = record { stands = join-text w u p e c ys r (f .stands); fits = omega arith };
+              number = omega arith;
+              size = omega (arith, length-append (withSize (normal c)) (normal ys));
+              words = omega arith;
+              shallow = omega arith;
+            };
+        back = text-back-on c r;
+      }
+
+  pub passed-text : (d : ℕ) (c : Items) (v n m : ℕ) → TextRow w u p c → v ≡ u + length (textWords c) → v ≤ D → m ≡ count c → n ≡ length (normalSize m) → Passed w D (suc d) u p v (p + 1) 1 (1 + n + m)
+  passed-text d c v n m r e h k z = rw (e, z, k) (text-passed d c r (omega arith))
+
+  pub no-text : (e : ℕ) → p < e → kindAt w p ≡ 9 → ((c : Items) → TextRow w u p c → u + length (textWords c) ≤ D → ⊥) → (xs : Items) → Placed w D u p e xs → ⊥
+  unfolding rows
+  no-text e h k f end x = absurd (omega (arith, x .stands .number))
+  no-text e h k f (leaf l xs) x = absurd (omega (arith, leaf-kind l, leaf-parts w u p e l xs (x .stands) .0 .kind))
+  no-text e h k f (group g c xs) x =
+      whether (isText g c)
+      (λ t.
+      let b = x .fits in
+      f c (text-parts w u p e g c xs t (x .stands) .0) (omega (arith, ap length (text-data g c xs t), length-append (textWords c) (dataWords xs))))
+      (λ t. absurd (other-kind g c t (sym (group-row w u p e g c xs (x .stands) .0) ∙ k)))
+
+-- a container has depth
+pub some-depth : (w : List ℕ) (D u p e : ℕ) → p < e → 7 ≤ kindAt w p → (xs : Items) → Placed w D u p e xs → 0 < depth xs
+unfolding rows depth
+some-depth w D u p e h k end x = absurd (omega (arith, x .stands .number))
+some-depth w D u p e h k (leaf l xs) x = absurd (omega (arith, leaf-kind l, leaf-parts w u p e l xs (x .stands) .0 .kind))
+some-depth w D u p e h k (group g c xs) x = omega arith
 
 -- ---- one container
 -- what stands inside the first container of items
@@ -112,23 +174,24 @@ pub record Inside (w : List ℕ) (D u p e : ℕ) (xs : Items) : Type 0 where
   pub kind : Group
   pub items : Items
   pub after : Items
-  pub row : kindAt w p ≡ rowKind kind
+  pub row : GroupKind w p kind items
   pub number : aAt w p ≡ count items
-  pub good : properGroup kind items ≡ true
   pub within : p + 1 + bAt w p ≤ e
   pub placed : Placed w D u (p + 1) (p + 1 + bAt w p) items
   pub behind : Placed w D (u + length (dataWords items)) (p + 1 + bAt w p) e after
   pub deep : suc (depth items) ≤ depth xs
   pub rest : depth after ≤ depth xs
 
-pub inside : (w : List ℕ) (D u p e : ℕ) → p < e → 7 ≤ kindAt w p → (xs : Items) → Placed w D u p e xs → Inside w D u p e xs
-unfolding rows dataWords depth
-inside w D u p e h k end x = absurd (omega (arith, x .stands .number))
-inside w D u p e h k (leaf l xs) x = absurd (omega (arith, leaf-kind l, leaf-parts w u p e l xs (x .stands) .0 .kind))
-inside w D u p e h k (group g c xs) x =
-    let s = group-parts w u p e g c xs (x .stands) in
+pub inside : (w : List ℕ) (D u p e : ℕ) → p < e → 7 ≤ kindAt w p → (kindAt w p ≡ 9 → ⊥) → (xs : Items) → Placed w D u p e xs → Inside w D u p e xs
+unfolding rows depth
+inside w D u p e h k n9 end x = absurd (omega (arith, x .stands .number))
+inside w D u p e h k n9 (leaf l xs) x = absurd (omega (arith, leaf-kind l, leaf-parts w u p e l xs (x .stands) .0 .kind))
+inside w D u p e h k n9 (group g c xs) x =
+    whether (isText g c) (λ t. absurd (n9 (text-parts w u p e g c xs t (x .stands) .0 .kind)))
+    (λ t.
+    let s = group-parts w u p e g c xs t (x .stands) in
     let f = x .fits in
-    let n = length-append (dataWords c) (dataWords xs) in
+    let n = ap length (group-data g c xs t) ∙ length-append (dataWords c) (dataWords xs) in
     let b = s .second in
     let q : p + 1 + rows c ≡ p + 1 + bAt w p = omega arith in
     let a = s .after .number in
@@ -136,15 +199,14 @@ inside w D u p e h k (group g c xs) x =
       kind = g;
       items = c;
       after = xs;
-      row = s .kind;
+      row = record { plain = t; is = s .kind; good = s .good };
       number = s .first;
-      good = s .good;
       within = omega arith;
       placed = record { stands = rw q at (s .inside); fits = omega arith };
       behind = record { stands = rw q at (s .after); fits = omega arith };
       deep = omega arith;
       rest = omega arith;
-    }
+    })
 
 -- ---- rows passed, by themselves
 module _ (w : List ℕ) (R D : ℕ) (h : Header w R D) where
@@ -183,9 +245,10 @@ module _ (w : List ℕ) (R D : ℕ) (h : Header w R D) where
   alone-is d u p v q c n a xs x = sym (stands-is w u p q xs (x .stands)) ∙ stands-is w u p q (a .items) (a .placed .stands)
 
   box-with : (d u p v n : ℕ) (xs : Items) → Stands w u (p + 1) (p + 1 + bAt w p) xs → n ≡ length (normal xs) → v ≡ u + length (dataWords xs) → v ≤ D → depth xs ≤ d →
-      7 ≤ kindAt w p → aAt w p ≡ count xs → KindOk w p (p + 1 + bAt w p) → Passed w D (suc d) u p v (p + 1 + bAt w p) 1 (1 + length (normalSize n) + n)
-  unfolding count rows dataWords normal depth
-  box-with d u p v n xs s y x t i k z o =
+      7 ≤ kindAt w p → (kindAt w p ≡ 9 → ⊥) → aAt w p ≡ count xs → KindOk w p (p + 1 + bAt w p) → Passed w D (suc d) u p v (p + 1 + bAt w p) 1 (1 + length (normalSize n) + n)
+  unfolding count normal depth
+  box-with d u p v n xs s y x t i k n9 z o =
+      let kk = o .rule xs (string-is w u (p + 1) (p + 1 + bAt w p) xs s) (edt-is w u (p + 1) (p + 1 + bAt w p) xs s) in
       let b : bAt w p ≡ rows xs = omega (arith, s .number) in
       let q : p + 1 + bAt w p ≡ p + 1 + rows xs = omega arith in
       record {
@@ -193,15 +256,16 @@ module _ (w : List ℕ) (R D : ℕ) (h : Header w R D) where
         fits = t;
         forth = λ e ys f.
             let g = f .fits in
-            let m = length-append (dataWords xs) (dataWords ys) in
+            let m = ap length (group-data (o .kind) xs ys (kk .plain)) ∙ length-append (dataWords xs) (dataWords ys) in
             record {
               items = group (o .kind) xs ys;
               placed = record {
                 stands = join-group w u p e (o .kind) xs ys (record {
-                  kind = o .is;
+                  plain = kk .plain;
+                  kind = kk .is;
                   first = z;
                   second = b;
-                  good = o .rule xs (edt-is w u (p + 1) (p + 1 + bAt w p) xs s);
+                  good = kk .good;
                   inside = rw q at s;
                   after = rw (q, x) at (f .stands);
                 });
@@ -213,15 +277,15 @@ module _ (w : List ℕ) (R D : ℕ) (h : Header w R D) where
               shallow = omega arith;
             };
         back = λ e ys g f.
-            let j = inside w D u p e (omega arith) k ys f in
+            let j = inside w D u p e (omega arith) k n9 ys f in
             let m : j .items ≡ xs = sym (stands-is w u (p + 1) (p + 1 + bAt w p) (j .items) (j .placed .stands)) ∙ stands-is w u (p + 1) (p + 1 + bAt w p) xs s in
             let a : u + length (dataWords (j .items)) ≡ v = ap (λ c. u + length (dataWords c)) m ∙ sym x in
             record { items = j .after; placed = subst (λ (c : ℕ). Placed w D c (p + 1 + bAt w p) e (j .after)) a (j .behind); shallow = j .rest };
       }
 
-  pub passed-box : (d u p v c n : ℕ) → p + 1 + bAt w p ≤ R → 7 ≤ kindAt w p → aAt w p ≡ c → KindOk w p (p + 1 + bAt w p) → Passed w D d u (p + 1) v (p + 1 + bAt w p) c n →
+  pub passed-box : (d u p v c n : ℕ) → p + 1 + bAt w p ≤ R → 7 ≤ kindAt w p → (kindAt w p ≡ 9 → ⊥) → aAt w p ≡ c → KindOk w p (p + 1 + bAt w p) → Passed w D d u (p + 1) v (p + 1 + bAt w p) c n →
       Passed w D (suc d) u p v (p + 1 + bAt w p) 1 (1 + length (normalSize n) + n)
   unfolding count dataWords normal depth
-  passed-box d u p v c n l k e o f =
+  passed-box d u p v c n l k n9 e o f =
       let a = alone d u (p + 1) v (p + 1 + bAt w p) c n l f in
-      box-with d u p v n (a .items) (a .placed .stands) (omega (arith, a .size)) (omega (arith, a .words)) (f .fits) (omega (arith, a .shallow)) k (omega (arith, a .number)) o
+      box-with d u p v n (a .items) (a .placed .stands) (omega (arith, a .size)) (omega (arith, a .words)) (f .fits) (omega (arith, a .shallow)) k n9 (omega (arith, a .number)) o

@@ -13,20 +13,19 @@ use Rattle.format.specs.Bits.{wordsFor}
 use Rattle.format.specs.Items.{Leaf}
 use Rattle.format.specs.Tables.{count}
 use Rattle.format.specs.Normal.{normalSize, normalInt, normalLeaf}
-use Rattle.format.proofs.Choices.{split, split-eq, lt-true, lt-false}
-use Rattle.writer.specs.Rows.{kindAt, aAt, bAt, Header, LeafRow, LeafAt, allChars, codes, plainOk, bitsOk, kindOk}
+use Rattle.format.proofs.Choices.{pick-yes, pick-no, split, split-eq, lt-true, lt-false}
+use Rattle.writer.specs.Rows.{kindAt, aAt, bAt, Header, LeafRow, LeafAt, single, values, plainOk, bitsOk, textOk, kindOk}
 use Rattle.writer.specs.Forms.{bitsLength}
-use Rattle.writer.specs.Surveys.{Small, SmallRows, NoItems, TooDeep, Passed}
+use Rattle.writer.specs.Surveys.{nextRow, Small, SmallRows, NoItems, TooDeep, Passed}
 use Rattle.writer.proofs.NumberLaws.{int-length-small}
-use Rattle.writer.proofs.RowLaws.{chars-yes, plain-a, plain-codes, plain-int, data-none, data-bits}
-use Rattle.writer.proofs.KindLaws.{edt-is}
+use Rattle.writer.proofs.RowLaws.{plain-a, plain-values, plain-int, data-none, data-bits, data-text, single-text, single-not, text-both, text-long}
+use Rattle.writer.proofs.KindLaws.{string-is, edt-is}
 use Rattle.writer.proofs.Standing.{leaf-is}
-use Rattle.writer.proofs.LeafRows.{clash, LeafFound, plain-leaf, plain-found, bits-found, leaf-ok}
+use Rattle.writer.proofs.LeafRows.{clash, LeafFound, plain-leaf, plain-found, bits-found, leaf-ok, text-found, text-ok}
 use Rattle.writer.proofs.LeafForms.{int-at, bits-at, bits-length-is, plain-form}
 use Rattle.writer.proofs.Judging.{kind-true, kind-right}
-use Rattle.writer.proofs.Passing.{passed-none, passed-join, passed-deeper, passed-leaf, no-leaf, inside, alone, alone-is, passed-box}
+use Rattle.writer.proofs.Passing.{passed-none, passed-join, passed-deeper, passed-leaf, no-leaf, passed-text, no-text, some-depth, inside, alone, alone-is, passed-box}
 
--- ---- what is strange about a row
 or-none : (a b : ℕ) → bitOr a b ≡ 0 → (a ≡ 0) × (b ≡ 0)
 or-none a b e = (omega (arith, or-add-and a b, and-le-r a b), omega (arith, or-add-and a b, and-le-l a b))
 
@@ -57,26 +56,17 @@ small-row w k m q h s =
     let z : bAt w q / m < 1 = div-lt-iff-lt-mul h .1 (omega arith) in
     or-zeros (bitOr (bitXor (kindAt w q) k) (aAt w q)) (bAt w q / m) (or-zeros (bitXor (kindAt w q) k) (aAt w q) (ap (λ i. bitXor i k) (s .kind) ∙ xor-self k) (s .none)) (omega arith)
 
--- four CHARs more
-pub chars-four : (w : List ℕ) (p e : ℕ) → p + 4 ≤ e → kindAt w p ≡ 3 → kindAt w (p + 1) ≡ 3 → kindAt w (p + 2) ≡ 3 → kindAt w (p + 3) ≡ 3
-    → allChars w p e ≡ allChars w (p + 4) e
-chars-four w p e h k0 k1 k2 k3 =
-    let e2 : p + 1 + 1 ≡ p + 2 = omega arith in
-    let e3 : p + 2 + 1 ≡ p + 3 = omega arith in
-    let e4 : p + 3 + 1 ≡ p + 4 = omega arith in
-    chars-yes w p e (omega arith) k0 ∙ (rw e2 at (chars-yes w (p + 1) e (omega arith) k1)) ∙ (rw e3 at (chars-yes w (p + 2) e (omega arith) k2)) ∙ (rw e4 at (chars-yes w (p + 3) e (omega arith) k3))
-
 -- a CHAR or an INT of one byte
 pub char-ok : (w : List ℕ) (p : ℕ) → Small w 3 128 p → plainOk (kindAt w p) (aAt w p) (bAt w p) ≡ true
-unfolding codes
-char-ok w p s = plain-codes _ _ _ (s .none) ∙ ap (λ j. ltb (bAt w p) (codes j)) (s .kind) ∙ lt-true (bAt w p) 128 (s .low)
+unfolding values
+char-ok w p s = plain-values _ _ _ (s .none) ∙ ap (λ j. ltb (bAt w p) (values j)) (s .kind) ∙ lt-true (bAt w p) 128 (s .low)
 
 char-not : (w : List ℕ) (p : ℕ) → kindAt w p ≡ 3 → (Small w 3 128 p → ⊥) → plainOk (kindAt w p) (aAt w p) (bAt w p) ≡ false
-unfolding codes
+unfolding values
 char-not w p k n =
     split-eq (aAt w p) 0
     (λ z. split (bAt w p) 128 (λ l. absurd (n (record { kind = k; none = z; low = l })))
-    (λ g. plain-codes _ _ _ z ∙ ap (λ j. ltb (bAt w p) (codes j)) k ∙ lt-false (bAt w p) 128 g))
+    (λ g. plain-values _ _ _ z ∙ ap (λ j. ltb (bAt w p) (values j)) k ∙ lt-false (bAt w p) 128 g))
     (λ z. plain-a _ _ _ z)
 
 -- ---- how far rows are alike
@@ -122,20 +112,20 @@ module _ (w : List ℕ) (R D : ℕ) (h : Header w R D) (bound : (i : ℕ) → ge
   within : 3 * p + 7 ≤ length w
   within = let c = h .within in omega arith
 
-  plain-at : (kindAt w p ≡ 2 → ⊥) → plainOk (kindAt w p) (aAt w p) (bAt w p) ≡ true → LeafFound w u p
-  plain-at k t = plain-found w u room little few p within k (plain-leaf (kindAt w p) (aAt w p) (bAt w p) (bound (3 * p + 6)) t)
+  plain-at : kindAt w p < 7 → (kindAt w p ≡ 2 → ⊥) → plainOk (kindAt w p) (aAt w p) (bAt w p) ≡ true → LeafFound w u p
+  plain-at y k t = plain-found w u room little few p within k y (plain-leaf (kindAt w p) (aAt w p) (bAt w p) (bound (3 * p + 6)) t)
 
-  pub plain-passed : (kindAt w p ≡ 1 → ⊥) → (kindAt w p ≡ 2 → ⊥) → plainOk (kindAt w p) (aAt w p) (bAt w p) ≡ true → Passed w D 0 u p u (p + 1) 1 1
-  plain-passed j k t =
-      let f = plain-at k t in
-      let z = data-none w p k in
+  pub plain-passed : kindAt w p < 7 → (kindAt w p ≡ 1 → ⊥) → (kindAt w p ≡ 2 → ⊥) → plainOk (kindAt w p) (aAt w p) (bAt w p) ≡ true → Passed w D 0 u p u (p + 1) 1 1
+  plain-passed y j k t =
+      let f = plain-at y k t in
+      let z = data-none w p k (λ n. omega arith) in
       passed-leaf w D u p (f .item) u 1 (f .row) (omega (arith, f .takes)) m (sym (ap length (plain-form w u p (f .item) (f .row) j k)))
 
   pub int-passed : (n : ℕ) → kindAt w p ≡ 1 → aAt w p ≡ 0 → n ≡ length (normalInt (signed 8 (bAt w p))) → Passed w D 0 u p u (p + 1) 1 n
   unfolding normalLeaf
   int-passed n k a e =
-      let f = plain-at (λ z. omega arith) (plain-int _ _ _ a k (bound (3 * p + 6))) in
-      let z = data-none w p (λ z. omega arith) in
+      let f = plain-at (omega arith) (λ z. omega arith) (plain-int _ _ _ a k (bound (3 * p + 6))) in
+      let z = data-none w p (λ z. omega arith) (λ z. omega arith) in
       passed-leaf w D u p (f .item) u n (f .row) (omega (arith, f .takes)) m
       (e ∙ sym (ap (λ i. length (normalLeaf i)) (sym (leaf-is w u p p (f .item) (f .row)) ∙ int-at w p k)))
 
@@ -189,7 +179,7 @@ module _ (w : List ℕ) (R D : ℕ) (h : Header w R D) (bound : (i : ℕ) → ge
       (λ i x y.
       let o = s .each i x y in
       let k = o .kind in
-      plain-passed w R D h bound u i (omega arith) m (λ z. omega arith) (λ z. omega arith) (char-ok w i o))
+      plain-passed w R D h bound u i (omega arith) m (omega arith) (λ z. omega arith) (λ z. omega arith) (char-ok w i o))
 
   pub ints-passed : SmallRows w 1 64 p e q → Passed w D 0 u p u q (q - p) (q - p)
   ints-passed s =
@@ -201,38 +191,86 @@ module _ (w : List ℕ) (R D : ℕ) (h : Header w R D) (bound : (i : ℕ) → ge
       int-passed w R D h bound u i (omega arith) m 1 (o .kind) (o .none) (sym (int-length-small (bAt w i) (o .low))))
 
 -- ---- a container
-module _ (w : List ℕ) (R D : ℕ) (h : Header w R D) (u p e : ℕ) (l : p < e) (k : 7 ≤ kindAt w p) where
+-- the row behind it
+pub next-one : (w : List ℕ) (p : ℕ) → single (kindAt w p) ≡ true → nextRow w p ≡ p + 1
+unfolding nextRow
+next-one w p t = pick-yes (single (kindAt w p)) (p + 1) (p + 1 + bAt w p) t
+
+pub next-more : (w : List ℕ) (p : ℕ) → single (kindAt w p) ≡ false → nextRow w p ≡ p + 1 + bAt w p
+unfolding nextRow
+next-more w p t = pick-no (single (kindAt w p)) (p + 1) (p + 1 + bAt w p) t
+
+-- a string
+module _ (w : List ℕ) (R D : ℕ) (h : Header w R D) (bound : (i : ℕ) → getD w i 0 < 2 ^ 64) (u p e : ℕ) (l : p < e) (j : e ≤ R) (m : u ≤ D) (k : kindAt w p ≡ 9) where
+  pub text-deepest : (d : ℕ) → d ≡ 0 → TooDeep w D d u p e
+  text-deepest d z xs x = omega (arith, some-depth w D u p e l (omega arith) xs x)
+
+  pub text-wrong : textOk w u (aAt w p) (bAt w p) ≡ false → NoItems w D u p e
+  text-wrong t =
+      let d = h .words in
+      no-text w D u p e l k
+      (λ c r f. clash _ (text-ok w u (room w R D h bound u p (omega arith) m) (little w R D h bound u p (omega arith) m) (few w R D h bound u p (omega arith) m) p c r (omega arith) .0) t)
+
+  pub text-whole : (d v z : ℕ) → (d ≡ 0 → ⊥) → textOk w u (aAt w p) (bAt w p) ≡ true → v ≡ u + wordsFor (8 * aAt w p) → v ≤ D → z ≡ length (normalSize (aAt w p)) →
+      (p + 1 ≤ nextRow w p) × (nextRow w p ≤ e) × Passed w D d u p v (nextRow w p) 1 (1 + z + aAt w p)
+  text-whole d v z g t y b n =
+      let f = text-found w u (room w R D h bound u p (omega arith) m) (little w R D h bound u p (omega arith) m) (few w R D h bound u p (omega arith) m) p (within w R D h bound u p (omega arith) m) k t bound in
+      let i = next-one w p (single-text (kindAt w p) k) in
+      let r : suc (d - 1) ≡ d = omega arith in (
+        omega arith,
+        omega arith,
+        rw i
+            (subst (λ (q : ℕ). Passed w D q u p v (p + 1) 1 (1 + z + aAt w p)) r
+            (passed-text w D u p (d - 1) (f .item) v z (aAt w p) (f .row) (omega (arith, f .takes, data-text w p k)) b (f .row .a) n)),
+      )
+
+  -- the bounds of its bytes
+  pub text-small : textOk w u (aAt w p) (bAt w p) ≡ true → aAt w p ≤ 131072
+  text-small t =
+      let y = text-both w u (aAt w p) (bAt w p) t in
+      let d = h .words in
+      let i = h .little in
+      split 131072 (aAt w p) (λ q. clash _ t (text-long w u (aAt w p) (bAt w p) (omega arith) q)) (λ q. q)
+
+module _ (w : List ℕ) (R D : ℕ) (h : Header w R D) (u p e : ℕ) (l : p < e) (k : 7 ≤ kindAt w p) (n9 : kindAt w p ≡ 9 → ⊥) where
   pub box-deepest : (d : ℕ) → d ≡ 0 → TooDeep w D d u p e
-  box-deepest d z xs x = let i = inside w D u p e l k xs x in omega (arith, i .deep)
+  box-deepest d z xs x = omega (arith, some-depth w D u p e l k xs x)
 
   pub box-short : e - (p + 1) < bAt w p → NoItems w D u p e
-  box-short s xs x = let i = inside w D u p e l k xs x in omega (arith, i .within)
+  box-short s xs x = let i = inside w D u p e l k n9 xs x in omega (arith, i .within)
 
   pub box-wrong : NoItems w D u (p + 1) (p + 1 + bAt w p) → NoItems w D u p e
-  box-wrong n xs x = let i = inside w D u p e l k xs x in n (i .items) (i .placed)
+  box-wrong n xs x = let i = inside w D u p e l k n9 xs x in n (i .items) (i .placed)
 
   pub box-deep : (d : ℕ) → (d ≡ 0 → ⊥) → TooDeep w D (d - 1) u (p + 1) (p + 1 + bAt w p) → TooDeep w D d u p e
-  box-deep d z n xs x = let i = inside w D u p e l k xs x in omega (arith, n (i .items) (i .placed), i .deep)
+  box-deep d z n xs x = let i = inside w D u p e l k n9 xs x in omega (arith, n (i .items) (i .placed), i .deep)
 
   pub box-kind : kindOk w p (p + 1 + bAt w p) ≡ false → NoItems w D u p e
   box-kind f xs x =
-      let i = inside w D u p e l k xs x in
-      clash _ (kind-right w p (p + 1 + bAt w p) (i .kind) (i .items) (i .row) (edt-is w u (p + 1) (p + 1 + bAt w p) (i .items) (i .placed .stands)) (i .good)) f
+      let i = inside w D u p e l k n9 xs x in
+      let s = i .placed .stands in
+      clash _ (kind-right w p (p + 1 + bAt w p) (i .kind) (i .items) (i .row) (string-is w u (p + 1) (p + 1 + bAt w p) (i .items) s) (edt-is w u (p + 1) (p + 1 + bAt w p) (i .items) s)) f
 
   module _ (d v c n : ℕ) (s : p + 1 + bAt w p ≤ R) (f : Passed w D (d - 1) u (p + 1) v (p + 1 + bAt w p) c n) where
     pub box-count : (c ≡ aAt w p → ⊥) → NoItems w D u p e
     unfolding count
     box-count g xs x =
-        let i = inside w D u p e l k xs x in
+        let i = inside w D u p e l k n9 xs x in
         let a = alone w R D h (d - 1) u (p + 1) v (p + 1 + bAt w p) c n s f in
         let q : count (i .items) ≡ count (a .items) = ap count (alone-is w R D h (d - 1) u (p + 1) v (p + 1 + bAt w p) c n a (i .items) (i .placed)) in
         g (omega (arith, a .number, i .number))
 
-    pub box-whole : (d ≡ 0 → ⊥) → c ≡ aAt w p → kindOk w p (p + 1 + bAt w p) ≡ true → (z : ℕ) → z ≡ length (normalSize n) → Passed w D d u p v (p + 1 + bAt w p) 1 (1 + z + n)
-    box-whole g q t z y =
+    pub box-whole : (d ≡ 0 → ⊥) → c ≡ aAt w p → kindOk w p (p + 1 + bAt w p) ≡ true → (z : ℕ) → z ≡ length (normalSize n) → p + 1 + bAt w p ≤ e →
+        (p + 1 ≤ nextRow w p) × (nextRow w p ≤ e) × Passed w D d u p v (nextRow w p) 1 (1 + z + n)
+    box-whole g q t z y b =
         let r : d ≡ suc (d - 1) = omega arith in
-        subst (λ (j : ℕ). Passed w D j u p v (p + 1 + bAt w p) 1 (1 + z + n)) (sym r)
-        (rw y (passed-box w R D h (d - 1) u p v c n s k (sym q) (kind-true w p (p + 1 + bAt w p) t) f))
+        let i = next-more w p (single-not (kindAt w p) k n9) in (
+          omega arith,
+          omega arith,
+          rw i
+              (subst (λ (j : ℕ). Passed w D j u p v (p + 1 + bAt w p) 1 (1 + z + n)) (sym r)
+              (rw y (passed-box w R D h (d - 1) u p v c n s k n9 (sym q) (kind-true w p (p + 1 + bAt w p) t) f))),
+        )
 
 -- ---- a run so far, from b up to p, and its next turn
 module _ (w : List ℕ) (D d a b e u p c n : ℕ) (f : Passed w D d a b u p c n) (l : p ≤ e) where

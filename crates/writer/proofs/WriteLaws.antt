@@ -1,52 +1,48 @@
 -- The normal form of a run, item by item, as it is written over the front of a list. Assumes nothing.
 use mathlib.Core.Path.{_≡_, refl, sym, _∙_, ap}
 use mathlib.Core.List.{List, _∷_, _++_}
-use mathlib.Core.Bool.{Bool, true, false}
+use mathlib.Core.Bool.{false}
 use Prim.Native.Nat.{ℕ, _+_, _-_, _<_, _≤_}
 use native.Mathlib.Omega.{arith}
 use lib.ListN.{length, take, drop, length-append}
 use Rattle.format.specs.Choice.{pick, ifEq}
 use Rattle.format.specs.Items.{Group, struc, edt, Items, isString}
-use Rattle.format.specs.Tables.{rows, rowKind}
+use Rattle.format.specs.Tables.{rows, isText, boxKind, rowKind}
 use Rattle.format.specs.Normal.{normalSize, withSize, normalLeaf, groupByte, normal, depth}
 use Rattle.format.specs.Answers.{over}
-use Rattle.format.proofs.Choices.{split, split-eq, ifEq-yes, ifEq-no}
+use Rattle.format.proofs.Choices.{pick-yes, split, ifEq-yes, ifEq-no}
 use Rattle.format.proofs.Digits.{width-mono}
 use Rattle.format.proofs.ItemLaws.{rows-least, rows-none}
-use Rattle.writer.specs.Rows.{kindAt, bAt, itemsAt, Run, leafAt}
+use Rattle.writer.specs.Rows.{kindAt, bAt, itemsAt, Run, leafAt, textAt}
 use Rattle.writer.specs.Measures.{Fits, headByte}
 use Rattle.writer.proofs.NumberLaws.{size-length-1, size-length-long}
-use Rattle.writer.proofs.RunLaws.{LeafStep, GroupStep, run-end, leaf-normal, leaf-adds, group-adds}
+use Rattle.writer.proofs.RunLaws.{LeafStep, GroupStep, TextStep, run-end, leaf-normal, leaf-adds, text-adds, group-adds}
 use Rattle.writer.proofs.Over.{over-next, over-done, back-length, lent}
 
--- ---- the type-byte of a container
-pub head-edt : (k : ℕ) (c : Items) → k ≡ 8 → 0xc3 ≡ headByte k c
+pub head-edt : (k : ℕ) → k ≡ 8 → 0xc3 ≡ headByte k
 unfolding headByte
-head-edt k c e = sym (ifEq-yes k 8 _ _ e)
+head-edt k e = sym (ifEq-yes k 8 _ _ e)
 
-pub head-other : (k : ℕ) (c : Items) (b : Bool) → (k ≡ 8 → ⊥) → isString c ≡ b → pick b 0xc5 0xc2 ≡ headByte k c
+pub head-other : (k : ℕ) → (k ≡ 8 → ⊥) → 0xc2 ≡ headByte k
 unfolding headByte
-head-other k c b n e = sym (ifEq-no k 8 _ _ n ∙ ap (λ t. pick t 0xc5 0xc2) e)
+head-other k n = sym (ifEq-no k 8 _ _ n)
 
-pub string-head : (k : ℕ) (c : Items) → headByte k c ≡ 0xc5 → isString c ≡ true
-unfolding headByte
-string-head k c e = split-eq k 8 (λ z. absurd (omega (arith, sym e ∙ ifEq-yes k 8 _ _ z))) (λ n. go (isString c) (sym (ifEq-no k 8 _ _ n) ∙ e))
-  where
-    go : (b : Bool) → _≡_ {A = ℕ} (pick b 0xc5 0xc2) 0xc5 → b ≡ true
-    go true e = refl
-    go false e = absurd (unfold pick in omega arith)
-
-head-is : (g : Group) (c : Items) → groupByte g c ≡ headByte (rowKind g) c
-unfolding groupByte headByte rowKind ifEq pick
-head-is struc c = refl
-head-is edt c = refl
+head-is : (g : Group) (c : Items) → isText g c ≡ false → groupByte g c ≡ headByte (rowKind g c)
+unfolding groupByte headByte rowKind boxKind isText isString ifEq pick
+head-is struc c t = rw t refl
+head-is edt c t = refl
 
 pub group-normal : (w : List ℕ) (p e : ℕ) → GroupStep w p e →
-    normal (itemsAt w p e) ≡ (headByte (kindAt w p) (itemsAt w (p + 1) (p + 1 + bAt w p)) ∷ withSize (normal (itemsAt w (p + 1) (p + 1 + bAt w p)))) ++ normal (itemsAt w (p + 1 + bAt w p) e)
+    normal (itemsAt w p e) ≡ (headByte (kindAt w p) ∷ withSize (normal (itemsAt w (p + 1) (p + 1 + bAt w p)))) ++ normal (itemsAt w (p + 1 + bAt w p) e)
 unfolding normal
 group-normal w p e s =
     let c = itemsAt w (p + 1) (p + 1 + bAt w p) in
-    ap normal (s .is) ∙ ap (λ z. z ∷ (withSize (normal c) ++ normal (itemsAt w (p + 1 + bAt w p) e))) (head-is (s .kind) c ∙ ap (λ k. headByte k c) (sym (s .row)))
+    ap normal (s .is) ∙ ap (λ z. z ∷ (withSize (normal c) ++ normal (itemsAt w (p + 1 + bAt w p) e))) (head-is (s .kind) c (s .plain) ∙ ap headByte (sym (s .row)))
+
+-- and of one that is
+pub text-normal : (w : List ℕ) (p e : ℕ) → TextStep w p e → normal (itemsAt w p e) ≡ (0xc5 ∷ withSize (normal (textAt w p))) ++ normal (itemsAt w (p + 1) e)
+unfolding normal groupByte
+text-normal w p e s = ap normal (s .is) ∙ ap (λ z. z ∷ (withSize (normal (textAt w p)) ++ normal (itemsAt w (p + 1) e))) (pick-yes (isString (textAt w p)) 0xc5 0xc2 (s .here .row .chars))
 
 -- ---- how few bytes a size can take
 size-mono : (a b : ℕ) → 0 < a → a ≤ b → length (normalSize a) ≤ length (normalSize b)
@@ -106,7 +102,7 @@ module _ (w : List ℕ) (from to d : ℕ) (old out : List ℕ) (p n : ℕ) (s : 
   pub group-room : GroupStep w p to → n + (1 + length (withSize (normal (itemsAt w (p + 1) (p + 1 + bAt w p))))) ≤ length out
   group-room t =
       let c = itemsAt w (p + 1) (p + 1 + bAt w p) in
-      let r = going-room (headByte (kindAt w p) c ∷ withSize (normal c)) (p + 1 + bAt w p) (group-normal w p to t) in
+      let r = going-room (headByte (kindAt w p) ∷ withSize (normal c)) (p + 1 + bAt w p) (group-normal w p to t) in
       omega arith
 
   pub going-on : (l after : List ℕ) (q b : ℕ) → normal (itemsAt w p to) ≡ l ++ normal (itemsAt w q to) → q ≤ to → Run w q to → depth (itemsAt w q to) ≤ d →
@@ -134,12 +130,24 @@ module _ (w : List ℕ) (from to d : ℕ) (old out : List ℕ) (p n : ℕ) (s : 
       going-on (normalLeaf (leafAt w p)) _ (p + 1) b (leaf-normal w p to t) (omega arith) (t .next) (omega arith) (back-length n out ys (omega arith) k) (lent n out (normalLeaf (leafAt w p)) ys y) e
 
   pub going-group : GroupStep w p to → (b : ℕ) (ys : List ℕ) → b ≡ 1 + length (withSize (normal (itemsAt w (p + 1) (p + 1 + bAt w p)))) → length ys ≡ length (take (length out - n) (drop n out)) →
-      ys ≡ over (headByte (kindAt w p) (itemsAt w (p + 1) (p + 1 + bAt w p)) ∷ withSize (normal (itemsAt w (p + 1) (p + 1 + bAt w p)))) (take (length out - n) (drop n out)) →
+      ys ≡ over (headByte (kindAt w p) ∷ withSize (normal (itemsAt w (p + 1) (p + 1 + bAt w p)))) (take (length out - n) (drop n out)) →
       Going w from to d old (take n out ++ (ys ++ drop (length out - n) (drop n out))) (p + 1 + bAt w p) (n + b)
   going-group t b ys e k y =
       let c = itemsAt w (p + 1) (p + 1 + bAt w p) in
-      let m = headByte (kindAt w p) c ∷ withSize (normal c) in
+      let m = headByte (kindAt w p) ∷ withSize (normal c) in
       let g = s .shallow in
       let a = group-adds w p to t .1 in
       let r = group-room t in
       going-on m _ (p + 1 + bAt w p) b (group-normal w p to t) (t .within) (t .next) (omega arith) (back-length n out ys (omega arith) k) (lent n out m ys y) (e ∙ omega arith)
+
+  pub text-room : TextStep w p to → n + (1 + length (withSize (normal (textAt w p)))) ≤ length out
+  text-room t = let r = going-room (0xc5 ∷ withSize (normal (textAt w p))) (p + 1) (text-normal w p to t) in omega arith
+
+  pub going-text : TextStep w p to → p < to → (b : ℕ) (ys : List ℕ) → b ≡ 1 + length (withSize (normal (textAt w p))) → length ys ≡ length (take (length out - n) (drop n out)) →
+      ys ≡ over (0xc5 ∷ withSize (normal (textAt w p))) (take (length out - n) (drop n out)) → Going w from to d old (take n out ++ (ys ++ drop (length out - n) (drop n out))) (p + 1) (n + b)
+  going-text t h b ys e k y =
+      let m : List ℕ = 0xc5 ∷ withSize (normal (textAt w p)) in
+      let g = s .shallow in
+      let a = text-adds w p to t in
+      let r = text-room t in
+      going-on m _ (p + 1) b (text-normal w p to t) (omega arith) (t .next) (omega arith) (back-length n out ys (omega arith) k) (lent n out m ys y) (e ∙ omega arith)

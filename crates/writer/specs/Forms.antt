@@ -1,15 +1,16 @@
 -- The parts of a normal form that the code measures and writes one by one.
-use Prim.Native.Nat.{ℕ, zero, suc, _+_, _/_, _≤_, _<_}
+use Prim.Native.Nat.{ℕ, zero, suc, _+_, _*_, _/_, _≤_, _<_}
 use mathlib.Core.Path.{_≡_}
 use mathlib.Core.Bool.{true}
 use mathlib.Core.List.{List, [], _∷_, _++_}
-use lib.ListN.{length}
+use lib.ListN.{length, drop, getD}
 use lib.IntN.{pos}
 use Rattle.format.specs.Choice.{ifLt, ifEq}
-use Rattle.format.specs.Bits.{num, packed, bytesFor}
+use Rattle.format.specs.Bits.{num, packed, bytesFor, wordsFor}
 use Rattle.format.specs.Items.{Leaf, int, bits, char, bool, empty, xtra}
 use Rattle.format.specs.Normal.{normalSize, normalInt}
-use Rattle.writer.specs.Rows.{kindAt, bAt}
+use Rattle.format.specs.Tables.{fromWords}
+use Rattle.writer.specs.Rows.{kindAt, bAt, dataOf}
 
 -- the contents of an LBITSTR of n bits have this size
 unfoldable pub longSize : ℕ → ℕ
@@ -49,6 +50,18 @@ counted (char c) = []
 counted (bool b) = []
 counted empty = []
 counted (xtra n) = []
+
+-- n bits that stand in the data words from b on, left-adjusted in bytes
+unfoldable pub keptBytes : List ℕ → ℕ → ℕ → List ℕ
+unfolding packed bytesFor fromWords
+keptBytes w b n = packed 8 (bytesFor n) (fromWords n b (dataOf w))
+
+-- those words hold them with spare bits 0, and are there
+pub record Kept (w : List ℕ) (b n : ℕ) : Type 0 where
+  pub number : length (fromWords n b (dataOf w)) ≡ n
+  pub words : drop b (dataOf w) ≡ packed 64 (wordsFor n) (fromWords n b (dataOf w)) ++ drop (b + wordsFor n) (dataOf w)
+  pub stored : 4 + 3 * getD w 0 0 + (b + wordsFor n) ≤ length w
+  pub small : n ≤ 1048576
 
 -- CHAR, BOOL, EMPTY and XTRA by kind and code
 unfoldable pub plainByte : ℕ → ℕ → ℕ

@@ -2,8 +2,7 @@
 use Prim.Native.Nat.{ℕ, suc, _+_, _≤_}
 use mathlib.Core.List.{List, _++_}
 use lib.ListN.{length, take, drop}
-use Rattle.format.specs.Choice.{pick, ifEq}
-use Rattle.format.specs.Items.{Items, isString}
+use Rattle.format.specs.Choice.{ifEq}
 use Rattle.format.specs.Normal.{withSize, normal, depth}
 use Rattle.writer.specs.Rows.{Run, itemsAt}
 
@@ -20,9 +19,9 @@ pub record FitsBox (w : List ℕ) (p e d n : ℕ) : Type 0 where
   pub room : 1 + length (withSize (normal (itemsAt w p e))) ≤ n
 
 -- the type-byte of a container by its row's kind
-unfoldable pub headByte : ℕ → Items → ℕ
-unfolding pick ifEq isString
-headByte k c = ifEq k 8 0xc3 (pick (isString c) 0xc5 0xc2)
+unfoldable pub headByte : ℕ → ℕ
+unfolding ifEq
+headByte k = ifEq k 8 0xc3 0xc2
 
 -- n bytes from a on, moved k bytes on
 unfoldable pub moved : ℕ → ℕ → ℕ → List ℕ → List ℕ

@@ -10,7 +10,13 @@ use Rattle.writer.specs.declared.survey.Leaves.the-variants as leaves
 use Rattle.format.specs.Items.{Items}
 use Rattle.format.specs.Tables.{count, dataWords}
 use Rattle.format.specs.Normal.{normal, depth}
-use Rattle.writer.specs.Rows.{kindAt, aAt, bAt, Stands}
+use Rattle.format.specs.Choice.{pick}
+use Rattle.writer.specs.Rows.{kindAt, aAt, bAt, single, Stands}
+
+-- the row behind an item and its elements
+unfoldable pub nextRow : List ℕ → ℕ → ℕ
+unfolding pick single
+nextRow w p = pick (single (kindAt w p)) (p + 1) (p + 1 + bAt w p)
 
 -- ---- rows alike
 pub record Small (w : List ℕ) (k m i : ℕ) : Type 0 where
@@ -74,4 +80,4 @@ RunSurveyed w D d u p e (surveyed.Whole n c v) = Passed w D d u p v e c n
 abbrev pub BoxSurveyed : List ℕ → ℕ → ℕ → ℕ → ℕ → ℕ → Surveyed → Type 0
 BoxSurveyed w D d u p e surveyed.Wrong = NoItems w D u p e
 BoxSurveyed w D d u p e surveyed.Deep = TooDeep w D d u p e
-BoxSurveyed w D d u p e (surveyed.Whole n c v) = (p + 1 + bAt w p ≤ e) × Passed w D d u p v (p + 1 + bAt w p) c n
+BoxSurveyed w D d u p e (surveyed.Whole n c v) = (p + 1 ≤ nextRow w p) × (nextRow w p ≤ e) × Passed w D d u p v (nextRow w p) c n

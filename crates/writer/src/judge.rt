@@ -2,14 +2,25 @@
 ghost use mathlib.Core.Path.{_≡_};
 ghost use mathlib.Core.Bool.{true};
 ghost use Prim.Native.Nat.{_+_, _*_, _^_, _≤_, _<_};
-ghost use lib.ListN.{length, getD};
+ghost use lib.ListN.{length};
+ghost use Rattle.format.specs.Numbers.{be};
 ghost use Rattle.format.specs.Tables.{itemsOf};
-ghost use Rattle.writer.specs.Rows.{Room, Header, HeaderJudged, kindAt, aAt, bAt, lands, allChars, intAt, edtRows, kindOk, groupOk, codes, plainOk, dataTo, BitsJudged, RowJudged, isSome};
+ghost use Rattle.writer.specs.Rows.{Room, Header, HeaderJudged, aAt, bAt, single, lands, allChars, intAt, edtRows, kindOk, groupOk, values, plainOk, dataTo, allLow, lowWords, BitsJudged, TextJudged, RowJudged, isSome};
 
 // A row: wrong, or right with the data words that it takes.
 pub enum Judged {
     Wrong,
     Right(usize),
+}
+
+// Whether an item of this kind is one row: all but STRUC and EDT.
+pub fn single(kind: u64) -> bool
+    ensures { λ r. ⌜ r ≡ single kind ⌝ }
+{
+    if kind < 7 {
+        return true;
+    }
+    kind == 9
 }
 
 // Whether `count` items, each followed by its elements, take the rows from `from` up to `to`.
@@ -24,7 +35,7 @@ pub fn lands(table: &[u64], from: usize, to: usize, count: u64) -> bool
             return false;
         }
         left -= 1;
-        if table[3 * p + 4] < 7 {
+        if single(table[3 * p + 4]) {
             p += 1;
             continue;
         }
@@ -37,37 +48,12 @@ pub fn lands(table: &[u64], from: usize, to: usize, count: u64) -> bool
     p == to
 }
 
-// 0 where the row `p` is a CHAR, otherwise some number.
-fn no_char(table: &[u64], p: usize) -> u64
-    requires { ⌜ Room (now table) (p + 1) (p + 1) ⌝ }
-    ensures { λ r. ⌜ (r ≡ 0 → kindAt (now (table .entry)) p ≡ 3) ⌝ }
-{
-    table[3 * p + 4] ^ 3
-}
-
-// How far from `from` on the rows are CHARs, four at a time.
-fn fours_of_chars(table: &[u64], from: usize, to: usize) -> usize
-    requires { ⌜ Room (now table) from to ⌝ }
-    ensures { λ r. ⌜ (r ≤ to) × (allChars (now (table .entry)) from to ≡ allChars (now (table .entry)) r to) ⌝ }
-{
-    let mut p = from;
-    while to - p >= 4 {
-        let first = no_char(table, p) | no_char(table, p + 1);
-        let second = no_char(table, p + 2) | no_char(table, p + 3);
-        if first | second != 0 {
-            return p;
-        }
-        p += 4;
-    }
-    p
-}
-
 // Whether every row from `from` up to `to` is a CHAR.
-pub fn all_chars(table: &[u64], from: usize, to: usize) -> bool
+fn all_chars(table: &[u64], from: usize, to: usize) -> bool
     requires { ⌜ Room (now table) from to ⌝ }
     ensures { λ r. ⌜ r ≡ allChars (now (table .entry)) from to ⌝ }
 {
-    let mut p = fours_of_chars(table, from, to);
+    let mut p = from;
     while p < to {
         if table[3 * p + 4] != 3 {
             return false;
@@ -100,28 +86,20 @@ fn edt_rows(table: &[u64], from: usize, to: usize) -> bool
     if kind == 1 {
         return int_at(table, from + 1, to);
     }
-    if kind != 7 {
-        return false;
-    }
-    let beneath = table[3 * from + 6] as usize;
-    if to - (from + 1) < beneath {
-        return false;
-    }
-    let next = from + 1 + beneath;
-    if all_chars(table, from + 1, next) {
-        return int_at(table, next, to);
+    if kind == 9 {
+        return int_at(table, from + 1, to);
     }
     false
 }
 
-// Whether the row `p`, whose elements stand up to `to`, has the kind of a STRUC, or that of an EDT and the elements of one.
+// Whether the row `p`, whose elements stand up to `to`, has the kind of a STRUC and is no string, or that of an EDT and has the elements of one.
 pub fn kind_ok(table: &[u64], p: usize, to: usize) -> bool
     requires { ⌜ Room (now table) (p + 1) to ⌝ }
     ensures { λ r. ⌜ r ≡ kindOk (now (table .entry)) p to ⌝ }
 {
     let kind = table[3 * p + 4];
     if kind == 7 {
-        return true;
+        return !all_chars(table, p + 1, to);
     }
     if kind == 8 {
         return edt_rows(table, p + 1, to);
@@ -145,10 +123,10 @@ fn group_ok(table: &[u64], p: usize, rows: usize) -> bool
     false
 }
 
-// How many codes a kind has that says one number from 0 up; INT has all, and other kinds none.
-fn codes(kind: u64) -> u64
+// How many values the last word of a row has by its kind, where the row says one number from 0 up; other kinds have none.
+fn values(kind: u64) -> u64
     requires { ⌜ (kind ≡ 1 → ⊥) ⌝ }
-    ensures { λ r. ⌜ r ≡ codes kind ⌝ }
+    ensures { λ r. ⌜ r ≡ values kind ⌝ }
 {
     if kind == 3 {
         return 128;
@@ -174,7 +152,7 @@ pub fn plain_ok(kind: u64, a: u64, b: u64) -> bool
     if kind == 1 {
         return true;
     }
-    b < codes(kind)
+    b < values(kind)
 }
 
 fn power(k: usize) -> u64
@@ -184,13 +162,18 @@ fn power(k: usize) -> u64
     1u64 << (k as u64)
 }
 
-// The row of a BITS, where `past` data words came before it.
-pub fn bits_row(table: &[u64], p: usize, rows: usize, words: usize, past: usize) -> Judged
-    requires { ⌜ Header (now table) rows words × (p < rows) × (past ≤ words) ⌝ }
-    ensures { λ r. ⌜ BitsJudged (now (table .entry)) past (aAt (now (table .entry)) p) (bAt (now (table .entry)) p) words r ⌝ }
+// So many bits in the data words from `first` on, where `past` data words came before them.
+pub fn bits_row(
+    table: &[u64],
+    bits: usize,
+    first: usize,
+    rows: usize,
+    words: usize,
+    past: usize,
+) -> Judged
+    requires { ⌜ Header (now table) rows words × (past ≤ words) ⌝ }
+    ensures { λ r. ⌜ BitsJudged (now (table .entry)) past bits first words r ⌝ }
 {
-    let bits = table[3 * p + 5] as usize;
-    let first = table[3 * p + 6] as usize;
     if first != past {
         return Judged::Wrong;
     }
@@ -204,6 +187,74 @@ pub fn bits_row(table: &[u64], p: usize, rows: usize, words: usize, past: usize)
     Judged::Wrong
 }
 
+// Whether all eight bytes of a word are below 128.
+fn low_word(word: u64) -> bool
+    ensures { λ r. ⌜ r ≡ allLow (be 8 word) ⌝ }
+{
+    word & 0x8080808080808080 == 0
+}
+
+// Whether all bytes of `count` words are below 128. The words are joined before the test, with no way out of this loop, so that the
+// compiler takes several at a time.
+fn low_joined(table: &[u64], from: usize, count: usize) -> bool
+    requires { ⌜ from + count ≤ length (now table) ⌝ }
+    ensures { λ r. ⌜ r ≡ lowWords (now (table .entry)) from count ⌝ }
+{
+    let mut joined: u64 = 0;
+    let mut i: usize = 0;
+    while i < count {
+        joined = joined | table[from + i];
+        i += 1;
+    }
+    low_word(joined)
+}
+
+// The same, word by word where there are few, as in most strings.
+fn low_words(table: &[u64], from: usize, count: usize) -> bool
+    requires { ⌜ from + count ≤ length (now table) ⌝ }
+    ensures { λ r. ⌜ r ≡ lowWords (now (table .entry)) from count ⌝ }
+{
+    if count >= 8 {
+        return low_joined(table, from, count);
+    }
+    let mut i: usize = 0;
+    while i < count {
+        if !low_word(table[from + i]) {
+            return false;
+        }
+        i += 1;
+    }
+    true
+}
+
+// The row of a string, where `past` data words came before it: its codes are a run of bits, of eight each.
+pub fn string_row(table: &[u64], p: usize, rows: usize, words: usize, past: usize) -> Judged
+    requires { ⌜ Header (now table) rows words × (p < rows) × (past ≤ words) ⌝ }
+    ensures { λ r. ⌜ TextJudged (now (table .entry)) past (aAt (now (table .entry)) p) (bAt (now (table .entry)) p) words r ⌝ }
+{
+    let count = table[3 * p + 5] as usize;
+    if count > 131072 {
+        return Judged::Wrong;
+    }
+    let row = bits_row(
+        table,
+        8 * count,
+        table[3 * p + 6] as usize,
+        rows,
+        words,
+        past,
+    );
+    match row {
+        Judged::Wrong => return Judged::Wrong,
+        Judged::Right(used) => {
+            if low_words(table, 3 * rows + 4 + past, used) {
+                return Judged::Right(used);
+            }
+            return Judged::Wrong;
+        }
+    }
+}
+
 fn judge_row(table: &[u64], p: usize, rows: usize, words: usize, past: usize) -> Judged
     requires { ⌜ Header (now table) rows words × (p < rows) ⌝ }
     requires { ⌜ (past ≡ dataTo (now table) p) × (past ≤ words) ⌝ }
@@ -211,13 +262,23 @@ fn judge_row(table: &[u64], p: usize, rows: usize, words: usize, past: usize) ->
 {
     let kind = table[3 * p + 4];
     if kind >= 7 {
+        if kind == 9 {
+            return string_row(table, p, rows, words, past);
+        }
         if group_ok(table, p, rows) {
             return Judged::Right(0);
         }
         return Judged::Wrong;
     }
     if kind == 2 {
-        return bits_row(table, p, rows, words, past);
+        return bits_row(
+            table,
+            table[3 * p + 5] as usize,
+            table[3 * p + 6] as usize,
+            rows,
+            words,
+            past,
+        );
     }
     if plain_ok(kind, table[3 * p + 5], table[3 * p + 6]) {
         return Judged::Right(0);

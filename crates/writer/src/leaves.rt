@@ -1,12 +1,12 @@
 // The normal form of an item without elements, from its row: its length, and its bytes.
 ghost use mathlib.Core.Path.{_≡_};
-ghost use Prim.Native.Nat.{_+_, _*_, _^_, _≤_, _<_};
-ghost use mathlib.Core.List.{_∷_, _++_};
+ghost use Prim.Native.Nat.{_+_, _*_, _≤_, _<_};
+ghost use mathlib.Core.List.{_∷_};
 ghost use lib.ListN.{length};
 ghost use Rattle.format.specs.Normal.{normalLeaf, normalSize};
 ghost use Rattle.format.specs.Answers.{over};
 ghost use Rattle.writer.specs.Rows.{kindAt, aAt, leafAt, LeafAt};
-ghost use Rattle.writer.specs.Forms.{bitsLength, marker, leafBytes, counted, plainByte};
+ghost use Rattle.writer.specs.Forms.{bitsLength, marker, Kept, keptBytes, counted, plainByte};
 use crate::numbers::int_length;
 use crate::numbers::put_int;
 use crate::numbers::put_low;
@@ -53,13 +53,14 @@ fn put_short(table: &[u64], p: usize, out: &mut [u8]) -> usize
     1 + k
 }
 
-// The bits of a BITS, left-adjusted in bytes: the whole words among them, and then the first bytes of a last word.
-fn put_bytes(table: &[u64], p: usize, out: &mut [u8])
-    requires { ⌜ LeafAt (now table) p × (kindAt (now table) p ≡ 2) × (length (leafBytes (leafAt (now table) p)) ≤ length (now out)) ⌝ }
-    ensures { λ r. ⌜ now (out .exit) ≡ over (leafBytes (leafAt (now (table .entry)) p)) (now (out .entry)) ⌝ }
+// So many bits from the data word `b` on, left-adjusted in bytes: the whole words among them, and then the first bytes of a last
+// word.
+pub fn put_bytes(table: &[u64], b: usize, bits: usize, out: &mut [u8])
+    requires { ⌜ Kept (now table) b bits × (length (keptBytes (now table) b bits) ≤ length (now out)) ⌝ }
+    ensures { λ r. ⌜ now (out .exit) ≡ over (keptBytes (now (table .entry)) b bits) (now (out .entry)) ⌝ }
 {
-    let first = 3 * (table[0] as usize) + 4 + (table[3 * p + 6] as usize);
-    let bytes = ((table[3 * p + 5] as usize) + 7) / 8;
+    let first = 3 * (table[0] as usize) + 4 + b;
+    let bytes = (bits + 7) / 8;
     let words = bytes / 8;
     let mut i: usize = 0;
     while i < words {
@@ -86,7 +87,12 @@ fn put_counted(table: &[u64], p: usize, out: &mut [u8])
     let bits = table[3 * p + 5];
     put_int(out, bits);
     let used = int_length(bits);
-    put_bytes(table, p, &mut out[used..]);
+    put_bytes(
+        table,
+        table[3 * p + 6] as usize,
+        bits as usize,
+        &mut out[used..],
+    );
 }
 
 // A type-byte and the size of what follows.

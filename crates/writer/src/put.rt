@@ -1,16 +1,14 @@
-// The bytes of the normal form of the items in a run of rows, where they are known to fit. Each row is visited once, and a
-// string's a second time.
+// The bytes of the normal form of the items in a run of rows, where they are known to fit. Each row is visited once.
 ghost use mathlib.Core.Path.{_≡_};
-ghost use mathlib.Core.Bool.{true};
 ghost use mathlib.Core.List.{_∷_, _++_};
 ghost use Prim.Native.Nat.{_+_, _-_, _*_, _≤_};
 ghost use lib.ListN.{length, take, drop};
 ghost use Rattle.format.specs.Normal.{normal, withSize};
 ghost use Rattle.format.specs.Answers.{over};
-ghost use Rattle.writer.specs.Rows.{Run, itemsAt, allChars};
+ghost use Rattle.writer.specs.Rows.{itemsAt, TextAt, textAt};
 ghost use Rattle.writer.specs.Measures.{Fits, FitsBox, headByte, moved};
 ghost use Rattle.writer.specs.Forms.{codesFrom, Alike};
-use crate::judge::all_chars;
+use crate::leaves::put_bytes;
 use crate::leaves::put_head;
 use crate::leaves::put_leaf;
 use crate::numbers::size_length;
@@ -30,43 +28,25 @@ fn shift(out: &mut [u8], from: usize, n: usize, by: usize)
     }
 }
 
-// The characters of a string.
-fn put_chars(table: &[u64], from: usize, to: usize, out: &mut [u8])
-    requires { ⌜ Run (now table) from to × (allChars (now table) from to ≡ true) ⌝ }
-    requires { ⌜ length (normal (itemsAt (now table) from to)) ≤ length (now out) ⌝ }
-    ensures { λ r. ⌜ now (out .exit) ≡ over (normal (itemsAt (now (table .entry)) from to)) (now (out .entry)) ⌝ }
+// The string whose row is `p`: a head, and its codes from their data words.
+fn write_string(table: &[u64], p: usize, out: &mut [u8]) -> usize
+    requires { ⌜ TextAt (now table) p × (1 + length (withSize (normal (textAt (now table) p))) ≤ length (now out)) ⌝ }
+    ensures { λ r. ⌜ r ≡ 1 + length (withSize (normal (textAt (now (table .entry)) p))) ⌝ }
+    ensures { λ r. ⌜ now (out .exit) ≡ over (0xc5 ∷ withSize (normal (textAt (now (table .entry)) p))) (now (out .entry)) ⌝ }
 {
-    let n = to - from;
-    let mut i: usize = 0;
-    while i < n {
-        out[i] = table[3 * (from + i) + 6] as u8;
-        i += 1;
-    }
-}
-
-fn write_string(table: &[u64], from: usize, to: usize, out: &mut [u8]) -> usize
-    requires { ⌜ Run (now table) from to × (allChars (now table) from to ≡ true) ⌝ }
-    requires { ⌜ 1 + length (withSize (normal (itemsAt (now table) from to))) ≤ length (now out) ⌝ }
-    ensures { λ r. ⌜ r ≡ 1 + length (withSize (normal (itemsAt (now (table .entry)) from to))) ⌝ }
-    ensures { λ r. ⌜ now (out .exit) ≡ over (0xc5 ∷ withSize (normal (itemsAt (now (table .entry)) from to))) (now (out .entry)) ⌝ }
-{
-    let size = to - from;
+    let size = table[3 * p + 5] as usize;
     put_head(out, 0xc5, size);
     let used = 1 + size_length(size);
-    put_chars(table, from, to, &mut out[used..]);
+    put_bytes(table, table[3 * p + 6] as usize, 8 * size, &mut out[used..]);
     used + size
 }
 
-// The type-byte of a container of this kind whose elements stand from `from` up to `to`.
-fn head_byte(table: &[u64], kind: u64, from: usize, to: usize) -> u8
-    requires { ⌜ Run (now table) from to ⌝ }
-    ensures { λ r. ⌜ r ≡ headByte kind (itemsAt (now (table .entry)) from to) ⌝ }
+// The type-byte of a container of this kind that is no string.
+fn head_byte(kind: u64) -> u8
+    ensures { λ r. ⌜ r ≡ headByte kind ⌝ }
 {
     if kind == 8 {
         return 0xc3;
-    }
-    if all_chars(table, from, to) {
-        return 0xc5;
     }
     0xc2
 }
@@ -126,12 +106,9 @@ fn write_container(
 ) -> usize
     requires { ⌜ FitsBox (now table) from to depth (length (now out)) ⌝ }
     ensures { λ r. ⌜ r ≡ 1 + length (withSize (normal (itemsAt (now (table .entry)) from to))) ⌝ }
-    ensures { λ r. ⌜ now (out .exit) ≡ over (headByte kind (itemsAt (now (table .entry)) from to) ∷ withSize (normal (itemsAt (now (table .entry)) from to))) (now (out .entry)) ⌝ }
+    ensures { λ r. ⌜ now (out .exit) ≡ over (headByte kind ∷ withSize (normal (itemsAt (now (table .entry)) from to))) (now (out .entry)) ⌝ }
 {
-    let byte = head_byte(table, kind, from, to);
-    if byte == 0xc5 {
-        return write_string(table, from, to, out);
-    }
+    let byte = head_byte(kind);
     let least = size_length(to - from);
     let start = 1 + least;
     let size = write_run(table, from, to, depth - 1, &mut out[start..]);
@@ -166,6 +143,12 @@ pub fn write_run(table: &[u64], from: usize, to: usize, depth: usize, out: &mut 
         }
         if kind < 7 {
             let bytes = put_leaf(table, p, &mut out[n..]);
+            n += bytes;
+            p += 1;
+            continue;
+        }
+        if kind == 9 {
+            let bytes = write_string(table, p, &mut out[n..]);
             n += bytes;
             p += 1;
             continue;

@@ -3,11 +3,13 @@
 ghost use mathlib.Core.Path.{_≡_};
 ghost use Prim.Native.Nat.{_+_, _≤_, _<_};
 ghost use Rattle.writer.specs.Rows.{Room, rowsOf, wordsOf, Headed, kindAt};
-ghost use Rattle.writer.specs.Surveys.{Small, SmallRows, LeavesSurveyed, RunSurveyed, BoxSurveyed};
+ghost use Rattle.writer.specs.Surveys.{nextRow, Small, SmallRows, LeavesSurveyed, RunSurveyed, BoxSurveyed};
 use crate::judge::Judged;
 use crate::judge::bits_row;
 use crate::judge::kind_ok;
 use crate::judge::plain_ok;
+use crate::judge::single;
+use crate::judge::string_row;
 use crate::leaves::bits_length;
 use crate::numbers::int_length;
 use crate::numbers::size_length;
@@ -95,7 +97,14 @@ fn survey_leaf(table: &[u64], p: usize, to: usize, past: usize) -> Leaves
     if kind == 2 {
         let rows = table[0] as usize;
         let words = table[3] as usize;
-        let row = bits_row(table, p, rows, words, past);
+        let row = bits_row(
+            table,
+            table[3 * p + 5] as usize,
+            table[3 * p + 6] as usize,
+            rows,
+            words,
+            past,
+        );
         match row {
             Judged::Wrong => return Leaves::Wrong,
             Judged::Right(used) => {
@@ -129,12 +138,47 @@ fn survey_leaves(table: &[u64], p: usize, to: usize, past: usize) -> Leaves
     survey_leaf(table, p, to, past)
 }
 
+// The string whose row is `p`; `depth` containers are allowed, itself among them.
+fn survey_string(table: &[u64], p: usize, to: usize, past: usize, depth: usize) -> Surveyed
+    requires { ⌜ Headed (now table) × (kindAt (now table) p ≡ 9) ⌝ }
+    requires { ⌜ (p < to) × (to ≤ rowsOf (now table)) × (past ≤ wordsOf (now table)) ⌝ }
+    ensures { λ r. ⌜ BoxSurveyed (now (table .entry)) (wordsOf (now (table .entry))) depth past p to r ⌝ }
+{
+    if depth == 0 {
+        return Surveyed::Deep;
+    }
+    let rows = table[0] as usize;
+    let words = table[3] as usize;
+    let row = string_row(table, p, rows, words, past);
+    match row {
+        Judged::Wrong => Surveyed::Wrong,
+        Judged::Right(used) => {
+            let size = table[3 * p + 5] as usize;
+            Surveyed::Whole(1 + size_length(size) + size, 1, past + used)
+        }
+    }
+}
+
+// The row behind the container whose row is `p`.
+fn next_row(table: &[u64], p: usize) -> usize
+    requires { ⌜ Room (now table) (p + 1) (nextRow (now table) p) ⌝ }
+    ensures { λ r. ⌜ r ≡ nextRow (now (table .entry)) p ⌝ }
+{
+    if single(table[3 * p + 4]) {
+        return p + 1;
+    }
+    p + 1 + (table[3 * p + 6] as usize)
+}
+
 // The container whose row is `p`, with its elements; `depth` containers are allowed, itself among them.
 fn survey_container(table: &[u64], p: usize, to: usize, past: usize, depth: usize) -> Surveyed
     requires { ⌜ Headed (now table) × (7 ≤ kindAt (now table) p) ⌝ }
     requires { ⌜ (p < to) × (to ≤ rowsOf (now table)) × (past ≤ wordsOf (now table)) ⌝ }
     ensures { λ r. ⌜ BoxSurveyed (now (table .entry)) (wordsOf (now (table .entry))) depth past p to r ⌝ }
 {
+    if table[3 * p + 4] == 9 {
+        return survey_string(table, p, to, past, depth);
+    }
     if depth == 0 {
         return Surveyed::Deep;
     }
@@ -190,7 +234,7 @@ pub fn survey_run(table: &[u64], from: usize, to: usize, before: usize, depth: u
                 n += bytes;
                 count += items;
                 past = after;
-                p = p + 1 + (table[3 * p + 6] as usize);
+                p = next_row(table, p);
             }
         }
     }

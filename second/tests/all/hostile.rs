@@ -7,19 +7,19 @@ use std::time::{Duration, Instant};
 /// No answer here takes this long unless work is done over and over.
 const LONG: Duration = Duration::from_millis(250);
 const SMALL_STACK: usize = 64 * 1024;
-const MOST_COUNT: [u8; 9] = [0xE0, 0x7F, 0xFF, 0xFF, 0xFF, 0xFF, 0xFF, 0xFF, 0xFF];
+pub const MOST_COUNT: [u8; 9] = [0xE0, 0x7F, 0xFF, 0xFF, 0xFF, 0xFF, 0xFF, 0xFF, 0xFF];
 
-fn sized(type_byte: u8, contents: &[u8]) -> Vec<u8> {
+pub fn sized(type_byte: u8, contents: &[u8]) -> Vec<u8> {
     let size = (contents.len() as u32).to_be_bytes();
     [&[type_byte, 0x84], &size[..], contents].concat()
 }
 
-fn repeat(count: &[u8], pattern: &[u8]) -> Vec<u8> {
+pub fn repeat(count: &[u8], pattern: &[u8]) -> Vec<u8> {
     sized(0xC4, &[count, pattern].concat())
 }
 
 /// Runs with a small stack and little time.
-fn quickly<T: Send + 'static>(work: impl FnOnce() -> T + Send + 'static) -> T {
+pub fn quickly<T: Send + 'static>(work: impl FnOnce() -> T + Send + 'static) -> T {
     let thread = std::thread::Builder::new().stack_size(SMALL_STACK);
     let start = Instant::now();
     let answer = thread
@@ -31,15 +31,15 @@ fn quickly<T: Send + 'static>(work: impl FnOnce() -> T + Send + 'static) -> T {
     answer
 }
 
-fn reading(message: Vec<u8>) -> Reading {
+pub fn reading(message: Vec<u8>) -> Reading {
     quickly(move || lent::read(&message, 65_540).0)
 }
 
-fn writing(table: Vec<u64>) -> Writing {
+pub fn writing(table: Vec<u64>) -> Writing {
     quickly(move || lent::write(&table, 65_536).0)
 }
 
-fn answer(number: u64, words: u64) -> Reading {
+pub fn answer(number: u64, words: u64) -> Reading {
     Reading {
         number,
         place: 0,
@@ -49,7 +49,7 @@ fn answer(number: u64, words: u64) -> Reading {
 }
 
 /// A pattern inside so many repeats of the same count.
-fn repeats(levels: usize, count: &[u8], pattern: &[u8]) -> Vec<u8> {
+pub fn repeats(levels: usize, count: &[u8], pattern: &[u8]) -> Vec<u8> {
     (0..levels).fold(pattern.to_vec(), |inner, _| repeat(count, &inner))
 }
 
@@ -83,8 +83,8 @@ fn many_bytes_deep_down() {
     let deep = |contents: &[u8]| (0..15).fold(contents.to_vec(), |inner, _| sized(0xC2, &inner));
     let padding = deep(&sized(0xC2, &[0xFF; 65_000]));
     assert_eq!(reading(padding), answer(0, 4 + 3 * 16));
-    let string = deep(&sized(0xC6, &[0x41; 16_300]));
-    assert_eq!(reading(string), answer(0, 4 + 3 * 16_316));
+    let string = deep(&sized(0xC6, &[0x41; 65_000]));
+    assert_eq!(reading(string), answer(0, 4 + 3 * 16 + 8_125));
     let integers = deep(&sized(0xC2, &[0xE1, 0x40].repeat(16_300)));
     assert_eq!(reading(integers), answer(0, 4 + 3 * 16_316));
     let nests = deep(&[0xC2, 0x01, 0x80].repeat(300));
@@ -108,7 +108,7 @@ fn data_words_copied() {
 }
 
 /// So many STRUCs one inside another, ending in some rows.
-fn nest(levels: u64, last: &[u64]) -> Vec<u64> {
+pub fn nest(levels: u64, last: &[u64]) -> Vec<u64> {
     let rows = levels + last.len() as u64 / 3;
     let mut table = vec![rows, 1, 4 + 3 * rows, 0];
     table.extend((0..levels).flat_map(|level| [7, 1, rows - 1 - level]));
@@ -116,13 +116,15 @@ fn nest(levels: u64, last: &[u64]) -> Vec<u64> {
     table
 }
 
-fn refusal(number: u64) -> Writing {
+pub fn refusal(number: u64) -> Writing {
     Writing { number, length: 0 }
 }
 
 #[test]
 fn tables_nested_as_deep_as_can_be() {
-    assert_eq!(writing(nest(16_383, &[7, 0, 0])), refusal(13));
+    assert_eq!(writing(nest(16_383, &[9, 0, 0])), refusal(13));
+    assert_eq!(writing(nest(16_383, &[7, 0, 0])), refusal(12));
+    assert_eq!(writing(nest(16_383, &[3, 0, 0])), refusal(12));
     assert_eq!(writing(nest(16_383, &[1, 0, 0])), refusal(13));
     assert_eq!(writing(nest(16_383, &[1, 1, 0])), refusal(12));
     assert_eq!(writing(nest(16_384, &[])), refusal(12));
@@ -140,18 +142,19 @@ fn tables_nested_as_deep_as_can_be() {
 #[test]
 fn tables_of_edts_in_edts() {
     let levels = 4_000;
-    let rows = 4 * levels;
-    let mut table = vec![rows, 1, 4 + 3 * rows, 0];
+    let rows = 3 * levels;
+    let mut table = vec![rows, 1, 4 + 3 * rows, levels];
     for level in 0..levels {
-        let beneath = rows - 4 * level - 1;
+        let beneath = rows - 3 * level - 1;
         let elements = if level + 1 == levels { 2 } else { 3 };
-        table.extend([8, elements, beneath, 7, 1, 1, 3, 0, 65, 1, 0, 0]);
+        table.extend([8, elements, beneath, 9, 1, level, 1, 0, 0]);
     }
+    let last_row = table.len() - 3;
+    table.extend(vec![0x41 << 56; levels as usize]);
     assert_eq!(writing(table.clone()), refusal(13));
-    *table.last_mut().expect("a last word") = 9;
+    table[last_row + 2] = 9;
     assert_eq!(writing(table.clone()), refusal(13));
-    let last_kind = table.len() - 3;
-    table[last_kind] = 3;
+    table[last_row] = 3;
     assert_eq!(writing(table), refusal(12));
 }
 
@@ -190,16 +193,18 @@ fn sixteen_deep_in_a_small_stack() {
     assert_eq!(answer, expected);
 }
 
-/// Seventeen STRUCs, then pairs of STRUCs whose second holds the next pair.
+/// Seventeen STRUCs, then pairs of a string and a STRUC that holds the next pair,
+/// the last STRUC being a string too.
 #[test]
 fn tables_of_broad_nests() {
     let rows = 16_383;
     let mut table = nest(17, &vec![0; 3 * (rows - 17)]);
     for at in (17..rows).step_by(2) {
         let left = (rows - at - 2) as u64;
-        let next = if left == 0 { 0 } else { 2 };
+        let next = if left == 0 { [9, 0, 0] } else { [7, 2, left] };
         let row = 4 + 3 * at;
-        table[row..row + 6].copy_from_slice(&[7, 0, 0, 7, next, left]);
+        table[row..row + 3].copy_from_slice(&[9, 0, 0]);
+        table[row + 3..row + 6].copy_from_slice(&next);
     }
     table[4 + 3 * 16 + 1] = 2;
     assert_eq!(writing(table), refusal(13));

@@ -19,8 +19,9 @@ fn object(chance: &mut Chance, inside: usize) -> Vec<u8> {
         6 => short_bits(chance),
         7 => long_bits(chance),
         8 => {
-            let length = chance.below(12);
-            sized(chance, 0xC6, &[0x41; 12][..length])
+            let length = chance.below(28);
+            let characters = chance.bytes(length);
+            sized(chance, 0xC6, &characters)
         }
         9 | 10 if inside > 0 => {
             let pattern = run(chance, inside + 1);
@@ -31,6 +32,7 @@ fn object(chance: &mut Chance, inside: usize) -> Vec<u8> {
             let contents = strucs(chance, inside + 1);
             sized(chance, 0xC5, &contents)
         }
+        13 => string(chance, inside),
         _ => {
             let type_byte = chance.pick(&[0xC2, 0xC2, 0xC5]);
             let contents = run(chance, inside + 1);
@@ -73,6 +75,39 @@ fn long_bits(chance: &mut Chance) -> Vec<u8> {
     let stream = chance.bytes(usize::div_ceil(bits, 8));
     let contents = [padding, length, stream].concat();
     sized(chance, 0xC1, &contents)
+}
+
+/// A string as STRUC or USTRUC: characters, padding and repeats of these, also of
+/// count 0, where the pattern may be anything.
+pub fn string(chance: &mut Chance, inside: usize) -> Vec<u8> {
+    let contents = characters(chance, inside + 1);
+    let type_byte = chance.pick(&[0xC2, 0xC5]);
+    sized(chance, type_byte, &contents)
+}
+
+fn characters(chance: &mut Chance, inside: usize) -> Vec<u8> {
+    let mut made = Vec::new();
+    for _ in 0..chance.below(6) {
+        let part = match chance.below(8) {
+            0 => vec![0xFF; chance.below(12)],
+            1 if inside < 16 => {
+                let never = run(chance, inside + 1);
+                let contents = [vec![0x80], never].concat();
+                sized(chance, 0xC4, &contents)
+            }
+            2 | 3 if inside < 16 => {
+                let pattern = characters(chance, inside + 1);
+                repeat(chance, &pattern)
+            }
+            _ => {
+                let length = chance.below(20);
+                let bytes = chance.bytes(length);
+                bytes.iter().map(|byte| byte % 128).collect()
+            }
+        };
+        made.extend(part);
+    }
+    made
 }
 
 fn edt(chance: &mut Chance, inside: usize) -> Vec<u8> {

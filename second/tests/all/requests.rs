@@ -4,7 +4,7 @@ use second::command::answer;
 use std::io::Write;
 use std::process::{Command, Stdio};
 
-const ANSWERS: [(&str, &str); 16] = [
+const ANSWERS: [(&str, &str); 19] = [
     (
         "read C203818283 20",
         "number 0 place 0 words 16 missing 0 stray 0 table 4 1 16 0 7 3 3 1 0 1 1 0 2 1 0 3",
@@ -54,6 +54,18 @@ const ANSWERS: [(&str, &str); 16] = [
     (
         "normalise 80C283020000 7 1",
         "number 2 place 1 words 0 length 0 missing 65536 stray 0 table output -",
+    ),
+    (
+        "read C602C845 8",
+        "number 0 place 0 words 8 missing 0 stray 0 table 1 1 7 1 9 2 0 5207568544123846656",
+    ),
+    (
+        "write 4 1 1 7 1 9 2 0 5207568544123846656",
+        "number 0 length 4 stray 0 output C5024845",
+    ),
+    (
+        "list C602C845",
+        r"text accepted 1 items 1 rows\n0 STRING 2 72 69\n",
     ),
     ("list FE", r"text accepted 1 items 1 rows\n0 EMPTY\n"),
     ("list C4", r"text refused 7 at 0\n"),
@@ -129,4 +141,9 @@ fn the_listing_ends_at_eight_thousand_words() {
     assert_eq!(text, expected + &"0 EMPTY\n".repeat(2_664) + "0 BITS 1 1\n");
     let over = [vec![0xFE; 2_664], vec![0xF1, 0x03, 0xFE]].concat();
     assert_eq!(second::listing(&over), "refused 11 at 0\n");
+    let string = |low| [0xC2, 7, 0xC4, 5, 0xE3, 0x00, 0xF9, low, 0x41];
+    let expected = "accepted 1 items 1 rows\n0 STRING 63944".to_string();
+    let text = second::listing(&string(0xC8));
+    assert_eq!(text, expected + &" 65".repeat(63_944) + "\n");
+    assert_eq!(second::listing(&string(0xC9)), "refused 11 at 0\n");
 }

@@ -35,33 +35,47 @@ fn choices(kinds: &[u64], words: &[u64]) -> Vec<Row> {
     kinds.iter().flat_map(of_kind).collect()
 }
 
-#[test]
-fn of_one_row() {
-    let kinds: Vec<u64> = (0..=10).chain([255, u64::MAX]).collect();
-    let words = [
+/// Small words, and some with which sums and products wrap round.
+fn telling_words() -> Vec<u64> {
+    vec![
         0,
         1,
         2,
         3,
         4,
+        7,
+        8,
+        9,
+        16,
+        17,
         63,
         64,
         65,
         127,
         128,
         1 << 32,
+        1 << 61,
         1 << 63,
+        u64::MAX - 6,
         u64::MAX,
-    ];
-    every_run(&choices(&kinds, &words), 1, |rows| {
+    ]
+}
+
+#[test]
+fn of_one_row() {
+    let kinds: Vec<u64> = (0..=10).chain([255, u64::MAX]).collect();
+    every_run(&choices(&kinds, &telling_words()), 1, |rows| {
         for data in [
             &[][..],
             &[0],
             &[1],
             &[1 << 63],
+            &[0x41 << 56],
+            &[0x7F7F_7F7F_7F7F_7F7F],
             &[0, 0],
             &[0, 1 << 63],
             &[0, 1],
+            &[0x7F7F_7F7F_7F7F_7F7F, 0x41 << 56],
         ] {
             judge(rows, data);
         }
@@ -72,7 +86,13 @@ fn of_one_row() {
 fn of_two_rows() {
     let choices = choices(&[1, 2, 3, 4, 5, 6, 7, 8, 9], &[0, 1, 2]);
     every_run(&choices, 2, |rows| {
-        for data in [&[][..], &[0], &[1 << 63, 1 << 62]] {
+        for data in [
+            &[][..],
+            &[0],
+            &[1 << 63, 1 << 62],
+            &[1 << 62],
+            &[1 << 62, 1 << 62],
+        ] {
             judge(rows, data);
         }
     });
@@ -81,10 +101,13 @@ fn of_two_rows() {
 #[test]
 fn of_three_rows() {
     let leaves = [[1, 0, 64], [3, 0, 65], [2, 0, 0], [2, 1, 0], [2, 1, 1]];
-    let choices = [choices(&[7, 8], &[0, 1, 2, 3]), leaves.to_vec()].concat();
-    every_run(&choices, 3, |rows| {
+    let strings = [[9, 0, 0], [9, 0, 1], [9, 1, 0], [9, 8, 1]];
+    let nests = choices(&[7, 8], &[0, 1, 2, 3]);
+    every_run(&[&nests[..], &leaves, &strings].concat(), 3, |rows| {
         judge(rows, &[]);
         judge(rows, &[1 << 63]);
+        judge(rows, &[1 << 62]);
+        judge(rows, &[1 << 62, 1]);
     });
 }
 
@@ -106,6 +129,7 @@ fn of_five_rows() {
         [7, 2, 4],
         [1, 0, 0],
         [3, 0, 1],
+        [9, 0, 0],
     ];
     every_run(&[&nests[..], &edts[..]].concat(), 5, |rows| {
         for outermost in 1..=2 {

@@ -6,14 +6,14 @@ use lib.ListN.{length, take, drop, getD, length-take, length-drop}
 use Prim.Native.Nat.{ℕ, _+_, _-_, _*_, _≤_, _<_}
 use borrow.Author.Needs.{needs}
 use native.Mathlib.Omega.{arith}
-use mathlib.Core.Path.{_≡_, refl, sym, ap, _∙_}
+use mathlib.Core.Path.{_≡_, sym, ap, _∙_}
 use Rattle.format.specs.Refusals.{further}
 use Rattle.format.specs.Messages.{reads}
 use Rattle.scan.specs.declared.Scanned.the-variants.{Refused}
 use Rattle.scan.specs.declared.closing.Object.the-variants.{Bad}
 use Rattle.scan.specs.Answer.{answer}
 use Rattle.scan.proofs.Turns.{Inv, inv-start, inv-end, leap-turn, bad-turn, got-turn}
-use Rattle.scan.proofs.ObjectCases.{stop-is, gap-is, row-is, short-few, short-is, long-few, long-is, text-fits, text-is, open-fits, open-place, open-refused, open-accepted}
+use Rattle.scan.proofs.ObjectCases.{stop-is, gap-is, row-is, bits-are, short-few, short-is, long-few, long-is, text-fits, text-is, open-fits, open-place, open-refused, open-accepted}
 use borrow.Author.Tests.{eqb-true, eqb-false}
 use borrow.Fn.Kinds.{In}
 use borrow.Fn.PlainCycle.{Measures, is, falls, and}
@@ -33,7 +33,6 @@ use Rattle.scan.proofs.closing.text_fault.Reads as text-fault-reads
 use Rattle.scan.proofs.stretch.all_chars.Reads as all-chars-reads
 use Rattle.scan.proofs.stretch.leap_from.Reads as leap-from-reads
 use Rattle.scan.proofs.summary.bits_of.Reads as bits-of-reads
-use Rattle.scan.proofs.summary.capped.Reads as capped-reads
 use Rattle.scan.proofs.summary.nothing.Reads as nothing-reads
 use Rattle.scan.proofs.summary.one_of.Reads as one-of-reads
 use Rattle.scan.proofs.summary.plus.Reads as plus-reads
@@ -42,7 +41,9 @@ use Rattle.scan.proofs.summary.text_of.Reads as text-of-reads
 use Rattle.format.proofs.fault.here.Reads as here-reads
 use Rattle.format.proofs.fault.further.Reads as further-reads
 use Rattle.format.proofs.tree.is_non_atomic.Reads as is-non-atomic-reads
+use Rattle.wire.proofs.bits.short_bits.Reads as short-bits-reads
 use Rattle.wire.proofs.head.head_of.Reads as head-of-reads
+use Rattle.wire.proofs.integer.following_of.Reads as following-of-reads
 use Rattle.wire.proofs.short.is_string.Reads as is-string-reads
 use Rattle.wire.proofs.short.short_size.Reads as short-size-reads
 use Rattle.scan.proofs.+scan_object+scan_run+scan_short.{statement}
@@ -83,16 +84,18 @@ scan-short-below t =
 -- what the called functions ask and tell; those of the cycle are called below the measure t
 abbrev scan-object-claims : ℕ → scan-object-lts.Claims
 scan-object-claims t = (
+  short-bits-reads.Asked,
+  short-bits-reads.Learnt,
+  bits-of-reads.Asked,
+  bits-of-reads.Learnt,
+  following-of-reads.Asked,
+  following-of-reads.Learnt,
   head-of-reads.Asked,
   head-of-reads.Learnt,
   nothing-reads.Asked,
   nothing-reads.Learnt,
   one-of-reads.Asked,
   one-of-reads.Learnt,
-  bits-of-reads.Asked,
-  bits-of-reads.Learnt,
-  capped-reads.Asked,
-  capped-reads.Learnt,
   text-of-reads.Asked,
   text-of-reads.Learnt,
   scan-run-below t,
@@ -147,6 +150,24 @@ scan-short-claims t = (
   group-of-reads.Learnt,
 )
 
+scan-object-short-bits-requires : (t : ℕ) → scan-object-lts.Need-short-bits-requires (scan-object-claims t) (scan-object-at t) scan-object.Post
+scan-object-short-bits-requires t c κs = search needs
+
+scan-object-sub-bits-of : (t : ℕ) → scan-object-lts.Need-sub-bits-of (scan-object-claims t) (scan-object-at t) scan-object.Post
+scan-object-sub-bits-of t c = search needs
+
+scan-object-bits-of-requires : (t : ℕ) → scan-object-lts.Need-bits-of-requires (scan-object-claims t) (scan-object-at t) scan-object.Post
+scan-object-bits-of-requires t c κs =
+    let f = c .before .short-bits .ensures (c .if1 .taken) .few in
+    omega arith
+
+scan-object-following-of-requires : (t : ℕ) → scan-object-lts.Need-following-of-requires (scan-object-claims t) (scan-object-at t) scan-object.Post
+scan-object-following-of-requires t c κs = search needs
+
+scan-object-returns : (t : ℕ) → scan-object-lts.Need-returns (scan-object-claims t) (scan-object-at t) scan-object.Post
+scan-object-returns t c =
+    bits-are _ _ _ _ (c .before .before .before .short-bits .ensures (c .before .before .if1 .taken)) _ (c .before .bits-of .ensures) _ (c .following-of .ensures .0)
+
 scan-object-head-of-requires : (t : ℕ) → scan-object-lts.Need-head-of-requires (scan-object-claims t) (scan-object-at t) scan-object.Post
 scan-object-head-of-requires t c κs = search needs
 
@@ -168,47 +189,41 @@ scan-object-one-of-requires t c κs = search needs
 scan-object-enum-known-h-3 : (t : ℕ) → scan-object-lts.Need-enum-known-h-3 (scan-object-claims t) (scan-object-at t) scan-object.Post
 scan-object-enum-known-h-3 t c = search needs
 
-scan-object-bits-of-requires : (t : ℕ) → scan-object-lts.Need-bits-of-requires (scan-object-claims t) (scan-object-at t) scan-object.Post
-scan-object-bits-of-requires t c κs =
+scan-object-bits-of-requires-2 : (t : ℕ) → scan-object-lts.Need-bits-of-requires-2 (scan-object-claims t) (scan-object-at t) scan-object.Post
+scan-object-bits-of-requires-2 t c κs =
     let f = short-few _ _ _ _ (c .before .before .before .head-of .ensures) _ _ _ (c .before .h3 .given .1) in
     omega arith
 
 scan-object-enum-known-h-4 : (t : ℕ) → scan-object-lts.Need-enum-known-h-4 (scan-object-claims t) (scan-object-at t) scan-object.Post
 scan-object-enum-known-h-4 t c = search needs
 
-scan-object-bits-of-requires-2 : (t : ℕ) → scan-object-lts.Need-bits-of-requires-2 (scan-object-claims t) (scan-object-at t) scan-object.Post
-scan-object-bits-of-requires-2 t c κs =
+scan-object-bits-of-requires-3 : (t : ℕ) → scan-object-lts.Need-bits-of-requires-3 (scan-object-claims t) (scan-object-at t) scan-object.Post
+scan-object-bits-of-requires-3 t c κs =
     let f = long-few _ _ _ _ (c .before .before .before .head-of .ensures) _ _ _ (c .before .h4 .given .1) in
-    omega (arith, c .before .before .before .before .before .pre .1 .0)
+    omega (arith, c .before .before .before .before .before .before .before .pre .1 .0)
 
 scan-object-enum-known-h-5 : (t : ℕ) → scan-object-lts.Need-enum-known-h-5 (scan-object-claims t) (scan-object-at t) scan-object.Post
 scan-object-enum-known-h-5 t c = search needs
 
-scan-object-add-capped : (t : ℕ) → scan-object-lts.Need-add-capped (scan-object-claims t) (scan-object-at t) scan-object.Post
-scan-object-add-capped t c =
-    let f = text-fits _ _ _ _ (c .before .before .before .head-of .ensures) _ _ (c .before .h5 .given .1) in
-    omega (arith, c .before .before .before .before .before .pre .1 .0)
-
-scan-object-capped-requires : (t : ℕ) → scan-object-lts.Need-capped-requires (scan-object-claims t) (scan-object-at t) scan-object.Post
-scan-object-capped-requires t c κs = search needs
-
 scan-object-text-of-requires : (t : ℕ) → scan-object-lts.Need-text-of-requires (scan-object-claims t) (scan-object-at t) scan-object.Post
-scan-object-text-of-requires t c κs = search needs
-
-scan-object-add-t30 : (t : ℕ) → scan-object-lts.Need-add-t30 (scan-object-claims t) (scan-object-at t) scan-object.Post
-scan-object-add-t30 t c =
-    let f = text-fits _ _ _ _ (c .before .before .before .before .before .head-of .ensures) _ _ (c .before .before .before .h5 .given .1) in
+scan-object-text-of-requires t c κs =
+    let f = text-fits _ _ _ _ (c .before .before .before .head-of .ensures) _ _ (c .before .h5 .given .1) in
     omega (arith, c .before .before .before .before .before .before .before .pre .1 .0)
+
+scan-object-add-t33 : (t : ℕ) → scan-object-lts.Need-add-t33 (scan-object-claims t) (scan-object-at t) scan-object.Post
+scan-object-add-t33 t c =
+    let f = text-fits _ _ _ _ (c .before .before .before .before .head-of .ensures) _ _ (c .before .before .h5 .given .1) in
+    omega (arith, c .before .before .before .before .before .before .before .before .pre .1 .0)
 
 scan-object-enum-known-h-6 : (t : ℕ) → scan-object-lts.Need-enum-known-h-6 (scan-object-claims t) (scan-object-at t) scan-object.Post
 scan-object-enum-known-h-6 t c = search needs
 
 -- a container's contents lie within the bytes, which are not too many, and not too many containers stand around it
 opened : (t : ℕ) (c : scan-object-lts.After-known-told6 (scan-object-claims t) (scan-object-at t) scan-object.Post)
-    → (c .before .h6 .given .0 .1 .0 + c .before .h6 .given .0 .1 .1 .0 ≤ length (c .before .before .before .before .before .args .s .now)) × (length (c .before .before .before .before .before .args .s .now) ≤ 65536) × (c .before .before .before .before .before .args .depth < 16)
+    → (c .before .h6 .given .0 .1 .0 + c .before .h6 .given .0 .1 .1 .0 ≤ length (c .before .before .before .before .before .before .before .args .s .now)) × (length (c .before .before .before .before .before .before .before .args .s .now) ≤ 65536) × (c .before .before .before .before .before .before .before .args .depth < 16)
 opened t c =
     let f = open-fits _ _ _ _ (c .before .before .before .head-of .ensures) _ _ _ (c .before .h6 .given .1) in
-    (f .0, c .before .before .before .before .before .pre .1 .0, f .1)
+    (f .0, c .before .before .before .before .before .before .before .pre .1 .0, f .1)
 
 scan-object-add-e : (t : ℕ) → scan-object-lts.Need-add-e (scan-object-claims t) (scan-object-at t) scan-object.Post
 scan-object-add-e t c = let f = opened t c in omega arith
@@ -228,7 +243,7 @@ scan-object-part-scan-run-end t c = let f = opened t c in omega arith
 scan-object-scan-run-requires : (t : ℕ) → scan-object-lts.Need-scan-run-requires (scan-object-claims t) (scan-object-at t) scan-object.Post
 scan-object-scan-run-requires t c κs =
     let f = opened t (c .before) in
-    (simp (length-take, length-drop) (omega (arith, c .before .before .before .before .before .before .pre .0)), (simp (length-take, length-drop) (omega arith), omega arith))
+    (simp (length-take, length-drop) (omega (arith, c .before .before .before .before .before .before .before .before .pre .0)), (simp (length-take, length-drop) (omega arith), omega arith))
 
 scan-object-enum-known-r : (t : ℕ) → scan-object-lts.Need-enum-known-r (scan-object-claims t) (scan-object-at t) scan-object.Post
 scan-object-enum-known-r t c = search needs
@@ -251,39 +266,39 @@ scan-object-enum-known-r-2 t c = search needs
 scan-object-closed-requires : (t : ℕ) → scan-object-lts.Need-closed-requires (scan-object-claims t) (scan-object-at t) scan-object.Post
 scan-object-closed-requires t c κs = search needs
 
-scan-object-returns : (t : ℕ) → scan-object-lts.Need-returns (scan-object-claims t) (scan-object-at t) scan-object.Post
-scan-object-returns t c = stop-is _ _ _ _ (c .before .before .before .head-of .ensures) _ (c .before .h .given .1)
-
 scan-object-returns-2 : (t : ℕ) → scan-object-lts.Need-returns-2 (scan-object-claims t) (scan-object-at t) scan-object.Post
-scan-object-returns-2 t c =
-    gap-is _ _ _ _ (c .before .before .before .head-of .ensures) _ (c .before .enum-told .given .1) (c .nothing .ensures)
+scan-object-returns-2 t c = stop-is _ _ _ _ (c .before .before .before .head-of .ensures) _ (c .before .h .given .1)
 
 scan-object-returns-3 : (t : ℕ) → scan-object-lts.Need-returns-3 (scan-object-claims t) (scan-object-at t) scan-object.Post
 scan-object-returns-3 t c =
-    row-is _ _ _ _ (c .before .before .before .before .head-of .ensures) _ _ _ _ (c .before .before .h2 .given .1) (c .one-of .ensures)
+    gap-is _ _ _ _ (c .before .before .before .head-of .ensures) _ (c .before .enum-told .given .1) (c .nothing .ensures)
 
 scan-object-returns-4 : (t : ℕ) → scan-object-lts.Need-returns-4 (scan-object-claims t) (scan-object-at t) scan-object.Post
 scan-object-returns-4 t c =
-    short-is _ _ _ _ (c .before .before .before .before .head-of .ensures) _ _ _ _ (c .before .before .h3 .given .1) (c .bits-of .ensures)
+    row-is _ _ _ _ (c .before .before .before .before .head-of .ensures) _ _ _ _ (c .before .before .h2 .given .1) (c .one-of .ensures)
 
 scan-object-returns-5 : (t : ℕ) → scan-object-lts.Need-returns-5 (scan-object-claims t) (scan-object-at t) scan-object.Post
 scan-object-returns-5 t c =
-    long-is _ _ _ _ (c .before .before .before .before .head-of .ensures) _ _ _ _ (c .before .before .before .before .before .before .pre .1 .0)
-    (c .before .before .h4 .given .1) (c .bits-of2 .ensures)
+    short-is _ _ _ _ (c .before .before .before .before .head-of .ensures) _ _ _ _ (c .before .before .h3 .given .1) (c .bits-of2 .ensures)
 
 scan-object-returns-6 : (t : ℕ) → scan-object-lts.Need-returns-6 (scan-object-claims t) (scan-object-at t) scan-object.Post
 scan-object-returns-6 t c =
-    text-is _ _ _ _ (c .before .before .before .before .before .head-of .ensures) _ _ _ (c .before .before .before .h5 .given .1)
-    (c .text-of .ensures ∙ rw (c .before .capped .ensures) refl)
+    long-is _ _ _ _ (c .before .before .before .before .head-of .ensures) _ _ _ _ (c .before .before .before .before .before .before .before .before .pre .1 .0)
+    (c .before .before .h4 .given .1) (c .bits-of3 .ensures)
 
 scan-object-returns-7 : (t : ℕ) → scan-object-lts.Need-returns-7 (scan-object-claims t) (scan-object-at t) scan-object.Post
 scan-object-returns-7 t c =
+    text-is _ _ _ _ (c .before .before .before .before .head-of .ensures) _ _ _ (c .before .before .before .before .before .before .before .before .pre .1 .0) (c .before .before .h5 .given .1)
+    (c .text-of .ensures)
+
+scan-object-returns-8 : (t : ℕ) → scan-object-lts.Need-returns-8 (scan-object-claims t) (scan-object-at t) scan-object.Post
+scan-object-returns-8 t c =
     ap Bad (c .further .ensures)
     ∙ open-refused _ _ _ _ (c .before .before .before .before .before .before .before .before .before .head-of .ensures) _ _ _
     (c .before .before .before .before .before .before .before .h6 .given .1) _ (sym (c .before .before .r .given .1) ∙ c .before .before .before .before .scan-run .ensures)
 
-scan-object-returns-8 : (t : ℕ) → scan-object-lts.Need-returns-8 (scan-object-claims t) (scan-object-at t) scan-object.Post
-scan-object-returns-8 t c =
+scan-object-returns-9 : (t : ℕ) → scan-object-lts.Need-returns-9 (scan-object-claims t) (scan-object-at t) scan-object.Post
+scan-object-returns-9 t c =
     open-accepted _ _ _ _ (c .before .before .before .before .before .before .before .before .before .head-of .ensures) _ _ _
     (c .before .before .before .before .before .before .before .h6 .given .1) _ _ (sym (c .before .before .r2 .given .1) ∙ c .before .before .before .before .scan-run .ensures)
     (c .closed .ensures)
@@ -458,9 +473,6 @@ scan-run-returns-3 t c = inv-end _ _ _ _ (c .before .loop .inv) (c .loop-test .l
 scan-short-is-string-requires : (t : ℕ) → scan-short-lts.Need-is-string-requires (scan-short-claims t) (scan-short-at t) scan-short.Post
 scan-short-is-string-requires t c κs = search needs
 
-scan-short-add-text-of : (t : ℕ) → scan-short-lts.Need-add-text-of (scan-short-claims t) (scan-short-at t) scan-short.Post
-scan-short-add-text-of t c = search needs
-
 scan-short-text-of-requires : (t : ℕ) → scan-short-lts.Need-text-of-requires (scan-short-claims t) (scan-short-at t) scan-short.Post
 scan-short-text-of-requires t c κs = search needs
 
@@ -480,9 +492,6 @@ scan-short-returns-2 : (t : ℕ) → scan-short-lts.Need-returns-2 (scan-short-c
 scan-short-returns-2 t c =
     let p = c .before .before .before .before .before .before .before .before .pre .1 in
     chars-refused _ _ _ (eqb-false _ _ (sym (c .before .before .before .before .before .before .is-string .ensures) ∙ c .before .before .before .before .before .if1 .left)) (p .0) (p .1) (c .before .before .before .before .all-chars .ensures (c .before .before .before .if2 .taken)) _ (c .before .before .text-fault .ensures) _ (c .here .ensures) (c .before .if3 .taken)
-
-scan-short-add-text-of-2 : (t : ℕ) → scan-short-lts.Need-add-text-of-2 (scan-short-claims t) (scan-short-at t) scan-short.Post
-scan-short-add-text-of-2 t c = search needs
 
 scan-short-text-of-requires-2 : (t : ℕ) → scan-short-lts.Need-text-of-requires-2 (scan-short-claims t) (scan-short-at t) scan-short.Post
 scan-short-text-of-requires-2 t c κs = search needs
@@ -539,6 +548,11 @@ pub +scan-object+scan-run+scan-short-spec : {M : Type 1} → statement M
     close μ-scan-object μ-scan-run μ-scan-short (λ t. scan-object-lts.spec (scan-object-claims t)
     (scan-object-at t)
     scan-object.Post
+    (scan-object-short-bits-requires t)
+    (scan-object-sub-bits-of t)
+    (scan-object-bits-of-requires t)
+    (scan-object-following-of-requires t)
+    (scan-object-returns t)
     (scan-object-head-of-requires t)
     (scan-object-enum-known-h t)
     (scan-object-enum-told t)
@@ -546,14 +560,12 @@ pub +scan-object+scan-run+scan-short-spec : {M : Type 1} → statement M
     (scan-object-enum-known-h-2 t)
     (scan-object-one-of-requires t)
     (scan-object-enum-known-h-3 t)
-    (scan-object-bits-of-requires t)
-    (scan-object-enum-known-h-4 t)
     (scan-object-bits-of-requires-2 t)
+    (scan-object-enum-known-h-4 t)
+    (scan-object-bits-of-requires-3 t)
     (scan-object-enum-known-h-5 t)
-    (scan-object-add-capped t)
-    (scan-object-capped-requires t)
     (scan-object-text-of-requires t)
-    (scan-object-add-t30 t)
+    (scan-object-add-t33 t)
     (scan-object-enum-known-h-6 t)
     (scan-object-add-e t)
     (scan-object-add-scan-run t)
@@ -566,14 +578,14 @@ pub +scan-object+scan-run+scan-short-spec : {M : Type 1} → statement M
     (scan-object-further-requires t)
     (scan-object-enum-known-r-2 t)
     (scan-object-closed-requires t)
-    (scan-object-returns t)
     (scan-object-returns-2 t)
     (scan-object-returns-3 t)
     (scan-object-returns-4 t)
     (scan-object-returns-5 t)
     (scan-object-returns-6 t)
     (scan-object-returns-7 t)
-    (scan-object-returns-8 t))
+    (scan-object-returns-8 t)
+    (scan-object-returns-9 t))
     (λ t. scan-run-lts.spec (scan-run-claims t)
     (scan-run-at t)
     scan-run.Post
@@ -624,14 +636,12 @@ pub +scan-object+scan-run+scan-short-spec : {M : Type 1} → statement M
     (scan-short-at t)
     scan-short.Post
     (scan-short-is-string-requires t)
-    (scan-short-add-text-of t)
     (scan-short-text-of-requires t)
     (scan-short-returns t)
     (scan-short-all-chars-requires t)
     (scan-short-text-fault-requires t)
     (scan-short-here-requires t)
     (scan-short-returns-2 t)
-    (scan-short-add-text-of-2 t)
     (scan-short-text-of-requires-2 t)
     (scan-short-returns-3 t)
     (scan-short-add-scan-run t)

@@ -1,5 +1,7 @@
 //! Items, and what can be counted of them.
 
+use std::mem::discriminant;
+
 /// An item, as the paper names them.
 #[derive(Clone, Debug, PartialEq, Eq)]
 pub enum Item {
@@ -16,11 +18,25 @@ pub enum Item {
 use Item::{Bits, Bool, Char, Edt, Empty, Int, Struc, Xtra};
 
 pub fn is_string(item: &Item) -> bool {
-    matches!(item, Struc(elements) if elements.iter().all(|element| matches!(element, Char(_))))
+    codes(item).is_some()
 }
 
+/// The codes of a string's characters. Nothing else has any.
+pub fn codes(item: &Item) -> Option<Vec<u8>> {
+    let code = |element: &Item| match element {
+        Char(code) => Some(*code),
+        _ => None,
+    };
+    match item {
+        Struc(elements) => elements.iter().map(code).collect(),
+        _ => None,
+    }
+}
+
+/// The kind of an item's row.
 pub fn kind(item: &Item) -> u64 {
     match item {
+        _ if is_string(item) => 9,
         Int(_) => 1,
         Bits(_) => 2,
         Char(_) => 3,
@@ -32,11 +48,12 @@ pub fn kind(item: &Item) -> u64 {
     }
 }
 
-/// Whether a USTRUC may have these elements. All STRUCs are of one kind.
+/// Whether a USTRUC may have these elements. All STRUCs, strings among them, are
+/// of one kind.
 pub fn are_of_one_kind(elements: &[Item]) -> bool {
     elements
         .iter()
-        .all(|element| kind(element) == kind(&elements[0]))
+        .all(|element| discriminant(element) == discriminant(&elements[0]))
 }
 
 pub fn has_heads(elements: &[Item]) -> bool {
@@ -48,6 +65,7 @@ pub fn has_heads(elements: &[Item]) -> bool {
 
 pub fn rows(items: &[Item]) -> usize {
     let of_item = |item: &Item| match item {
+        _ if is_string(item) => 1,
         Struc(elements) | Edt(elements) => 1 + rows(elements),
         _ => 1,
     };
@@ -56,6 +74,7 @@ pub fn rows(items: &[Item]) -> usize {
 
 pub fn data_words(items: &[Item]) -> usize {
     let of_item = |item: &Item| match item {
+        Struc(characters) if is_string(item) => characters.len().div_ceil(8),
         Struc(elements) | Edt(elements) => data_words(elements),
         Bits(bits) => bits.len().div_ceil(64),
         _ => 0,

@@ -191,17 +191,22 @@ fn long_bits(message: &[u8], at: usize, start: usize, end: usize) -> Result<Item
     Ok(Bits(bits[..length as usize].to_vec()))
 }
 
-/// The pattern so many times, or often enough that the rows are over their
-/// limit, and that there are two elements.
+/// The pattern so many times, or often enough that the rows or the data words are
+/// over their limit, and that there are two elements. Characters can be those of a
+/// string, which holds eight times as many of them as there are data words.
 fn repeated(pattern: Vec<Item>, count: u64) -> Vec<Item> {
-    let rows = rows(&pattern) as u64;
-    let enough = match rows {
+    let are_chars = pattern.iter().all(|item| matches!(item, Char(_)));
+    let (cost, limit) = match are_chars {
+        true => (pattern.len(), 8 * 16_384),
+        false => (rows(&pattern).max(data_words(&pattern)), 16_384),
+    };
+    let enough = match cost {
         0 => 0,
-        1..=16_384 => 2 + 16_384 / rows,
+        _ if cost <= limit => 2 + limit / cost,
         _ if pattern.len() == 1 => 2,
         _ => 1,
     };
-    vec![pattern; count.min(enough) as usize].concat()
+    vec![pattern; count.min(enough as u64) as usize].concat()
 }
 
 fn of_one_kind(elements: Vec<Item>, place: u64) -> Result<Vec<Item>, Refusal> {

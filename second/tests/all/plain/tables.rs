@@ -1,7 +1,7 @@
 //! The table of a list of items, and the items of a table.
 
 use super::items::Item::{self, Bits, Bool, Char, Edt, Empty, Int, Struc, Xtra};
-use super::items::{bits_of, has_heads, kind, word_of};
+use super::items::{bits_of, codes, has_heads, kind, word_of};
 
 /// The table of a list of items.
 pub fn table(items: &[Item]) -> Vec<u64> {
@@ -14,6 +14,11 @@ pub fn table(items: &[Item]) -> Vec<u64> {
 
 fn put_rows(items: &[Item], rows: &mut Vec<u64>, data: &mut Vec<u64>) {
     for item in items {
+        if let Some(codes) = codes(item) {
+            rows.extend([9, codes.len() as u64, data.len() as u64]);
+            data.extend(codes.chunks(8).map(|eight| word_of(&bits_of(eight))));
+            continue;
+        }
         let (a, b) = match item {
             Int(value) => (0, *value as u64),
             Bits(bits) => (bits.len() as u64, data.len() as u64),
@@ -69,11 +74,23 @@ fn items_of_rows(mut rows: &[u64], data: &[u64]) -> Option<Vec<Item>> {
             6 if *b < 4 => Xtra(*b as u8),
             7 => Struc(items_of_rows(beneath, data)?),
             8 => Edt(items_of_rows(beneath, data).filter(|elements| has_heads(elements))?),
+            9 => Struc(characters_at(*a, *b, data)?),
             _ => return None,
         });
         rows = after;
     }
     Some(items)
+}
+
+/// Bytes that are no codes, and words that are not there, make no string.
+fn characters_at(count: u64, word: u64, data: &[u64]) -> Option<Vec<Item>> {
+    let from = usize::try_from(word).ok()?;
+    let words = usize::try_from(count.div_ceil(8)).ok()?;
+    let words = data.get(from..from.checked_add(words)?)?;
+    let bytes: Vec<u8> = words.iter().flat_map(|word| word.to_be_bytes()).collect();
+    let characters = &bytes[..count as usize];
+    let of_seven_bits = characters.iter().all(|&byte| byte < 128);
+    of_seven_bits.then(|| characters.iter().map(|&byte| Char(byte)).collect())
 }
 
 fn bits_at(count: u64, word: u64, data: &[u64]) -> Option<Vec<bool>> {

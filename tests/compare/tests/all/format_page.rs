@@ -30,7 +30,14 @@ fn bytes(cell: &str, same: &[u8]) -> Vec<u8> {
     }
 }
 
-/// A worked example: refused as told, or accepted with the normal form told.
+/// The words that a worked example tells, as in `(1 2 3), 16 words`.
+fn words_told(said: &str) -> Option<u64> {
+    let (_, words) = said.strip_suffix(" words")?.rsplit_once(' ')?;
+    Some(words.parse().expect("a number of words"))
+}
+
+/// A worked example: refused as told, or accepted with the words and the normal
+/// form told.
 fn works(checker: &mut Checker, message: &[u8], said: &str, normal: &str) {
     let answer = checker.normalising(message, AMPLE_WORDS, AMPLE_BYTES);
     let told = format!(
@@ -40,7 +47,7 @@ fn works(checker: &mut Checker, message: &[u8], said: &str, normal: &str) {
     let refused = said.starts_with("refused");
     let as_said = match refused {
         true => told == said && normal.is_empty(),
-        false => answer.number == 0,
+        false => answer.number == 0 && words_told(said).is_none_or(|due| due == answer.words),
     };
     checker.must(as_said, || format!("{answer:?}: {}", told::bytes(message)));
     if !refused && !normal.is_empty() {
@@ -55,7 +62,7 @@ fn works(checker: &mut Checker, message: &[u8], said: &str, normal: &str) {
 #[test]
 fn the_worked_examples() {
     let mut checker = Checker::new();
-    let examples = rows("Message", 23);
+    let examples = rows("Message", 26);
     in_both_stacks(&mut checker, |checker| {
         for row in &examples {
             for cell in row[0].split(", ") {

@@ -29,7 +29,8 @@ fn count(chance: &mut Chance) -> i64 {
 fn pattern(chance: &mut Chance) -> Vec<u8> {
     let three = vec![0xF1, 0x03, 0xF1, 0x01, 0x80];
     let leaves: [&[u8]; 6] = [&[], &[0x80], &[0x41], &[0xFF, 0xFF], &three, &[0xFE, 0x80]];
-    match chance.below(10) {
+    match chance.below(11) {
+        5 => sized(0xC6, b"ABCDEFGHI"),
         0 => bits(chance.pick(&[64, 65, 700])),
         1 => sized(0xC5, b"AB"),
         2 => sized(0xC3, &[0x81, 0x82]),
@@ -66,12 +67,20 @@ fn deep(chance: &mut Chance) -> Vec<u8> {
     sized(0xC2, &inner)
 }
 
-/// About 16,384 rows or data words by a repeat.
+/// About 16,384 rows or data words by a repeat, or 131,072 characters.
 fn near_the_limits(chance: &mut Chance) -> Vec<u8> {
-    let pattern = pattern(chance);
-    let count = chance.pick(&[16_383, 16_384, 8_191, 5_461, 5_462, 4_096, 1_489, 15_000]);
+    let (pattern, count) = match chance.once_in(3) {
+        true => (
+            b"A".to_vec(),
+            chance.pick(&[131_071, 131_072, 131_073, 65_532]),
+        ),
+        false => {
+            let counts = [16_383, 16_384, 8_191, 5_461, 5_462, 4_096, 1_489, 15_000];
+            (pattern(chance), chance.pick(&counts))
+        }
+    };
     let levels = chance.below(14);
-    let more = vec![0x80; chance.below(3)];
+    let more = vec![chance.pick(&[0x80, 0x41, 0xFF]); chance.below(3)];
     sized(
         0xC2,
         &[nest(levels, 0xC2, &repeat(count, &pattern)), more].concat(),

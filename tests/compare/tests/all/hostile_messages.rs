@@ -1,6 +1,7 @@
 //! Messages that would cost a careless reader much time or stack, in two sizes
 //! of each shape.
 
+use crate::hostile_strings;
 use crate::objects::{bits, nest, repeat, repeats, sized, MOST};
 
 /// What makes a message hard, the message, and the number due for its reading.
@@ -28,7 +29,7 @@ impl Size {
     }
 
     /// So many levels, each of which doubles what is inside.
-    fn levels(self, whole: usize) -> usize {
+    pub fn levels(self, whole: usize) -> usize {
         match self {
             Size::Whole => whole,
             Size::Quarter => whole - 2,
@@ -36,7 +37,7 @@ impl Size {
     }
 }
 
-fn hostile(name: &'static str, message: Vec<u8>, number: u64) -> Hostile {
+pub fn hostile(name: &'static str, message: Vec<u8>, number: u64) -> Hostile {
     Hostile {
         name,
         message,
@@ -51,6 +52,7 @@ pub fn messages(size: Size) -> Vec<Hostile> {
         depths(size),
         fields(size),
         cut_short(size),
+        hostile_strings::messages(size),
     ];
     all.into_iter().flatten().collect()
 }
@@ -122,7 +124,7 @@ fn depths(size: Size) -> Vec<Hostile> {
         ),
         hostile(
             "a string sixteen deep",
-            inmost(0xC6, &vec![0x41; size.of(16_300)]),
+            inmost(0xC6, &vec![0x41; size.of(65_000)]),
             0,
         ),
         hostile(

@@ -2,7 +2,7 @@
 
 use crate::chance::Chance;
 use crate::checker::Checker;
-use crate::plain::items::{rows, Item};
+use crate::plain::items::{data_words, rows, Item};
 use crate::plain::{forms, tables};
 use crate::small_stack::{in_small_stack, report, rounds, AT_ONCE};
 use crate::{forms_by_chance, items_by_chance, told};
@@ -27,7 +27,7 @@ fn small_items(chance: &mut Chance) -> Vec<Item> {
         };
         let innermost = items_by_chance::items(chance, 6);
         let items = (0..levels).fold(innermost, |inner, _| vec![Item::Struc(inner)]);
-        if rows(&items) < 2_000 {
+        if rows(&items) + 8 * data_words(&items) < 2_000 {
             return items;
         }
     }

@@ -12,7 +12,7 @@ use crate::plain::items::{data_words, depth, rows, Item};
 use crate::plain::tables::table as table_of;
 use crate::rooms::{AMPLE_BYTES, MORE};
 use crate::small_stack::{by_chance, in_both_stacks, in_small_stack, report};
-use crate::tables::{nest, table, Row};
+use crate::tables::{chain, nest, table, Row};
 use crate::vector_files::with_key;
 use crate::writing_corrupted::values;
 use crate::writing_limits::integers;
@@ -111,7 +111,7 @@ fn one_call(checker: &mut Checker, table: &[u64], others: usize, met: &mut Met) 
 /// for each that has a length, and otherwise what the vector says.
 #[test]
 fn of_vectors() {
-    let vectors = with_key("table", 339);
+    let vectors = with_key("table", 558);
     let mut checker = Checker::new();
     let mut met = Met::default();
     in_small_stack(&mut checker, |checker| {
@@ -131,27 +131,28 @@ fn of_vectors() {
 }
 
 /// All runs of a few words that make headers, rows and data. Those that begin with
-/// the header of no items are known, and so are those with a length: nine rows,
-/// with a word behind them or none, and four bit strings with a data word.
+/// the header of no items are known, and so are those with a length: ten rows,
+/// with a word behind them or none, and five bit strings and four strings with a
+/// data word.
 #[test]
 fn of_every_short_run_of_words() {
     let mut checker = Checker::new();
     let mut met = Met::default();
     in_small_stack(&mut checker, |checker| {
         for length in 0..=8 {
-            every_run(&[0, 1, 2, 4, 7], length, |words| {
+            every_run(&[0, 1, 2, 4, 7, 9], length, |words| {
                 one_call(checker, words, MORE, &mut met);
             });
         }
     });
     must_meet(&met, &[0, 12, 15]);
-    assert_eq!(met[0], 1 + 5 + 25 + 125 + 625, "tables of no items");
-    assert_eq!(met[15], 9 * (1 + 5) + 4, "tables with a length");
+    assert_eq!(met[0], 1 + 6 + 36 + 216 + 1_296, "tables of no items");
+    assert_eq!(met[15], 10 * (1 + 6) + 5 + 4, "tables with a length");
     let cases = met.iter().sum();
     report("one_call::of_every_short_run_of_words", cases, &checker);
 }
 
-const ROWS: [Row; 15] = [
+const ROWS: [Row; 19] = [
     [0, 0, 0],
     [1, 0, 5],
     [1, 0, 64],
@@ -167,6 +168,10 @@ const ROWS: [Row; 15] = [
     [7, 2, 2],
     [8, 2, 2],
     [8, 2, 1],
+    [9, 0, 0],
+    [9, 0, 1],
+    [9, 2, 0],
+    [9, 8, 1],
 ];
 
 /// All tables of up to three such rows, also sixteen STRUCs down.
@@ -174,7 +179,7 @@ const ROWS: [Row; 15] = [
 fn of_every_few_rows() {
     let mut checker = Checker::new();
     let mut met = Met::default();
-    let data: [&[u64]; 3] = [&[], &[1 << 55], &[1 << 55, 1]];
+    let data: [&[u64]; 5] = [&[], &[1 << 55], &[1 << 55, 1], &[1 << 54], &[1 << 54, 1]];
     in_small_stack(&mut checker, |checker| {
         for count in 0..=3 {
             every_run(&ROWS, count, |rows| {
@@ -270,10 +275,11 @@ fn every_data_word(bits: u64) -> Vec<u64> {
 
 /// Tables at the limits, and what an empty output is due for each.
 fn at_the_limits() -> Vec<(Vec<u64>, Writing)> {
-    let nested = |levels| table(&nest(levels, 0, &[]), 1, &[]);
+    let nested = |levels| table(&chain(levels), 1, &[]);
     let empties = |count| table_of(&vec![Item::Empty; count]);
     let bits = |count| table_of(&[Item::Bits(vec![false; count])]);
     let struc = |elements| table_of(&[Item::Struc(elements)]);
+    let string = |count| struc(vec![Item::Char(65); count]);
     let mut stray_bit = every_data_word(1);
     stray_bit[65_539] = 1;
     vec![
@@ -289,6 +295,10 @@ fn at_the_limits() -> Vec<(Vec<u64>, Writing)> {
         (struc(integers(7_281, 4)), answer(14, 0)),
         (bits(524_224), answer(15, 65_536)),
         (bits(524_225), answer(14, 0)),
+        (string(65_532), answer(15, 65_536)),
+        (string(65_533), answer(14, 0)),
+        (string(131_072), answer(14, 0)),
+        (string(131_073), answer(12, 0)),
         (every_data_word(1), answer(15, 32_768)),
         (every_data_word(64), answer(14, 0)),
         (stray_bit, answer(12, 0)),

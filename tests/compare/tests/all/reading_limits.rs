@@ -45,7 +45,8 @@ fn of_rows(rows: usize) -> Vec<Vec<u8>> {
     let beneath = rows - 1;
     let odd = vec![0x80; beneath % 2];
     let pairs = repeat((beneath / 2) as i64, &[0xC2, 0x01, 0xFE]);
-    let fives = repeat((beneath / 5) as i64, &[0x80, 0x41, 0xC5, 0x02, 0x42, 0x43]);
+    let five = [0x80, 0x41, 0xC5, 0x02, 0x42, 0x43, 0xFE, 0xFD];
+    let fives = repeat((beneath / 5) as i64, &five);
     let within = repeat(128, &repeat(127, &[0x80]));
     vec![
         vec![0x80; rows],
@@ -54,8 +55,13 @@ fn of_rows(rows: usize) -> Vec<Vec<u8>> {
         [0xE1, 0x40].repeat(rows),
         [0xF1, 0x01].repeat(rows),
         [0xC2, 0x81, 0x00].repeat(rows),
-        sized(0xC6, &vec![0x41; beneath]),
-        sized(0xC5, &vec![0x41; beneath]),
+        [0xC6, 0x01, 0x41].repeat(rows),
+        sized(0xC2, &[vec![0x41; beneath - 1], vec![0x80]].concat()),
+        sized(0xC2, &repeat(beneath as i64, &[0xC5, 0x01, 0x41])),
+        sized(
+            0xC2,
+            &[repeat(beneath as i64 - 1, b"A"), vec![0x80]].concat(),
+        ),
         sized(0xC3, &vec![0x80; beneath]),
         sized(0xC2, &repeat(beneath as i64, &[0x80])),
         sized(0xC5, &repeat(beneath as i64, &[0xFF, 0x80, 0xFF])),
@@ -86,7 +92,21 @@ fn of_data_words(words: usize) -> Vec<Vec<u8>> {
         ((words - 2_000) / 3) as i64,
         &[singles(1), bits(128)].concat(),
     );
+    let string = |words: usize| sized(0xC2, &repeat(8 * words as i64, b"A"));
+    let nines = repeat((words / 2) as i64, &sized(0xC6, b"ABCDEFGHI"));
+    let both = [bits(65), sized(0xC6, b"ABCDEFGHI")].concat();
+    let both = repeat((words / 4) as i64, &both);
+    let eights = repeat(7 * words as i64, b"A");
     vec![
+        string(words),
+        [string(words - 1), sized(0xC6, b"A")].concat(),
+        [singles(1_000), string(words - 1_001), bits(64)].concat(),
+        sized(
+            0xC5,
+            &[&eights[..], &repeat(words as i64 - 1, b"B"), b"C"].concat(),
+        ),
+        sized(0xC2, &[nines, singles(words % 2)].concat()),
+        sized(0xC2, &[singles(words % 4), both].concat()),
         sized(0xC2, &[doubles, singles(words % 2)].concat()),
         sized(0xC2, &[singles(words % 100), hundreds].concat()),
         sized(

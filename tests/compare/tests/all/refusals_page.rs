@@ -8,7 +8,7 @@ use crate::objects;
 use crate::pages::{self, in_backticks, message, refusal};
 use crate::rooms::{AMPLE_BYTES, AMPLE_WORDS};
 use crate::small_stack::{in_both_stacks, report};
-use crate::tables::{nest, table};
+use crate::tables::{chain, table};
 use crate::told;
 use compare::library::{self, Empty};
 use std::collections::{BTreeMap, BTreeSet};
@@ -83,8 +83,8 @@ fn by_hand(number: u64) -> Option<(&'static str, Case)> {
         ),
         12 => ("no words", writing(vec![])),
         13 => (
-            "seventeen STRUCs, one inside the other",
-            writing(table(&nest(17, 0, &[]), 1, &[])),
+            "sixteen STRUCs around an empty string",
+            writing(table(&chain(17), 1, &[])),
         ),
         14 => (
             "a bit string of 524,225 bits",
@@ -192,7 +192,7 @@ fn one_less_is_accepted() {
     let mut checker = Checker::new();
     let padding = vec![0xFF; 65_536];
     let boxes = objects::nest(15, 0xC2, &[0xC2, 0x81, 0x00]);
-    let box_table = table(&nest(16, 0, &[]), 1, &[]);
+    let box_table = table(&chain(16), 1, &[]);
     let bits = table(&[[2, 524_224, 0]], 1, &[0; 8_191]);
     let no_words_but_a_header = table(&[], 0, &[]);
     in_both_stacks(&mut checker, |checker| {

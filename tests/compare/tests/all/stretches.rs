@@ -6,7 +6,7 @@ use crate::checker::Checker;
 use crate::objects::{repeat, sized};
 use crate::small_stack::{in_small_stack, report};
 
-const ALIKE: [&[u8]; 14] = [
+const ALIKE: [&[u8]; 16] = [
     &[0x41],
     &[0x85],
     &[0xFF],
@@ -21,6 +21,8 @@ const ALIKE: [&[u8]; 14] = [
     &[0xF2, 0x02, 0x53],
     &[0xC5, 0x02, 0x41, 0x42],
     &[0xC2, 0x02, 0x80, 0xFE],
+    &[0x41, 0xFF, 0x42],
+    &[0xC4, 0x03, 0x83, 0x41, 0x42],
 ];
 
 /// Whole objects, objects that are cut short, and bytes that begin none.

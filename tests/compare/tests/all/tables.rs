@@ -10,6 +10,9 @@ pub fn table(rows: &[Row], outermost: u64, data: &[u64]) -> Vec<u64> {
     [header, rows.concat(), data.to_vec()].concat()
 }
 
+/// A string of no characters, where no data word comes before it.
+pub const EMPTY_STRING: Row = [9, 0, 0];
+
 /// So many STRUCs one inside another, the innermost with so many elements in
 /// the last rows.
 pub fn nest(levels: usize, elements: u64, last: &[Row]) -> Vec<Row> {
@@ -19,4 +22,9 @@ pub fn nest(levels: usize, elements: u64, last: &[Row]) -> Vec<Row> {
         [7, direct, (rows - 1 - level) as u64]
     };
     (0..levels).map(struc).chain(last.iter().copied()).collect()
+}
+
+/// So many STRUCs one inside another, at least one, the innermost the empty string.
+pub fn chain(levels: usize) -> Vec<Row> {
+    nest(levels - 1, 1, &[EMPTY_STRING])
 }

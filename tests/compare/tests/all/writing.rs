@@ -13,7 +13,7 @@ use crate::vector_files::{with_key, Vector};
 #[test]
 fn vectors() {
     let mut checker = Checker::new();
-    let vectors = with_key("write", 226);
+    let vectors = with_key("write", 347);
     in_both_stacks(&mut checker, |checker| {
         vectors
             .iter()

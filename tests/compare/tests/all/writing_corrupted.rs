@@ -11,7 +11,7 @@ use crate::small_stack::{in_small_stack, report, rounds, AT_ONCE};
 const THIRD: u64 = u64::MAX / 3;
 
 /// Values for a word, near its own and far from it.
-pub fn values(word: u64, neighbour: u64) -> [u64; 24] {
+pub fn values(word: u64, neighbour: u64) -> [u64; 29] {
     let high = 1 << 63;
     [
         0,
@@ -30,6 +30,11 @@ pub fn values(word: u64, neighbour: u64) -> [u64; 24] {
         word.wrapping_add(1),
         word.wrapping_sub(1),
         word ^ high,
+        word ^ 0x80,
+        word ^ 0x0100,
+        10,
+        1 << 61,
+        u64::MAX - 7,
         word.wrapping_add(1 << 32),
         neighbour,
         THIRD,
@@ -95,7 +100,7 @@ fn wild_table(chance: &mut Chance) -> Vec<u64> {
     let small = |chance: &mut Chance| match chance.below(30) {
         0 => chance.word(),
         1 => 1 << chance.below(64),
-        _ => chance.below(9) as u64,
+        _ => chance.below(10) as u64,
     };
     let mut words: Vec<u64> = (0..4 + 3 * rows + data).map(|_| small(chance)).collect();
     let header = [rows, rows.min(words[1]), 4 + 3 * rows, data];
@@ -115,6 +120,7 @@ fn tamed(mut words: Vec<u64>) -> Vec<u64> {
             [5, ..] => [5, 0, 0],
             [6, _, b] => [6, 0, b % 4],
             [kind @ (7 | 8), a, b] => [kind, a.min(b), b],
+            [9, a, b] => [9, 8 * (a % 3), b],
             _ => continue,
         };
         row.copy_from_slice(&tame);
@@ -208,7 +214,7 @@ fn row_counts_that_wrap_round() {
     );
 }
 
-/// BITS, STRUCs and EDTs whose extents or data would wrap round.
+/// BITS, strings, STRUCs and EDTs whose extents or data would wrap round.
 #[test]
 fn extents_that_wrap_round() {
     let mut checker = Checker::new();
@@ -216,20 +222,22 @@ fn extents_that_wrap_round() {
         u64::MAX - 1,
         u64::MAX - 62,
         u64::MAX - 63,
+        u64::MAX - 7,
+        1 << 61,
         THIRD - 1,
         2 * THIRD,
     ];
     let words = [&HEADER_WORDS[..], &more].concat();
     in_small_stack(&mut checker, |checker| {
         every_run(&words, 2, |pair| {
-            for kind in [2, 7, 8] {
+            for kind in [2, 7, 8, 9] {
                 let rows = [&[kind, pair[0], pair[1]], &TWO_INTS[..]].concat();
                 checker.writing_in_every_room(&[&[3, 1, 13, 0], &rows[..]].concat());
                 checker.writing_in_every_room(&[&[3, 3, 13, 1], &rows[..], &[0]].concat());
             }
         });
     });
-    let cases = 6 * words.len().pow(2) as u64;
+    let cases = 8 * words.len().pow(2) as u64;
     report(
         "writing_corrupted::extents_that_wrap_round",
         cases,

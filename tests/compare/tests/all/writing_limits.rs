@@ -5,7 +5,7 @@ use crate::plain::items::Item;
 use crate::plain::tables;
 use crate::rooms::AMPLE_BYTES;
 use crate::small_stack::{in_both_stacks, report};
-use crate::tables::{nest, table, Row};
+use crate::tables::{chain, nest, table, Row, EMPTY_STRING};
 use crate::told;
 
 const INT: Row = [1, 0, 0];
@@ -33,8 +33,10 @@ fn nests() {
     let mut cases = Vec::new();
     for levels in [1, 15, 16, 17, 18, 100, 16_381, 16_382, 16_383, 16_384] {
         let due = |levels: usize| if levels > 16 { 13 } else { 0 };
-        cases.push((table(&nest(levels, 0, &[]), 1, &[]), due(levels)));
+        cases.push((table(&chain(levels), 1, &[]), due(levels)));
+        cases.push((table(&nest(levels, 0, &[]), 1, &[]), 12));
         if levels < 16_384 {
+            cases.push((table(&nest(levels, 1, &[[3, 0, 65]]), 1, &[]), 12));
             cases.push((table(&nest(levels, 1, &[INT]), 1, &[]), due(levels)));
             cases.push((table(&nest(levels, 1, &[[1, 1, 0]]), 1, &[]), 12));
             cases.push((table(&nest(levels, 1, &[INT]), 2, &[]), 12));
@@ -46,7 +48,7 @@ fn nests() {
             cases.push((table(&nest(levels, 1, &bad), 1, &[]), 12));
         }
     }
-    cases.push((table(&nest(16_385, 0, &[]), 1, &[]), 12));
+    cases.push((table(&chain(16_385), 1, &[]), 12));
     agree("writing_limits::nests", &cases);
 }
 
@@ -54,23 +56,20 @@ fn nests() {
 /// very end of them.
 #[test]
 fn edts_in_edts() {
-    let levels = 4_096;
+    let levels = 5_461;
     let level = |at: u64| {
         let elements = if at + 1 == levels { 2 } else { 3 };
-        [
-            [8, elements, 4 * (levels - at) - 1],
-            [7, 1, 1],
-            [3, 0, 65],
-            INT,
-        ]
+        [[8, elements, 3 * (levels - at) - 1], [9, 1, at], INT]
     };
     let rows: Vec<Row> = (0..levels).flat_map(level).collect();
+    let letters = vec![0x41 << 56; levels as usize];
     let changed = |row: Row| [&rows[..rows.len() - 1], &[row]].concat();
     let cases = [
-        (table(&rows, 1, &[]), 13),
-        (table(&changed([1, 0, u64::MAX]), 1, &[]), 13),
-        (table(&changed([3, 0, 65]), 1, &[]), 12),
-        (table(&changed([9, 0, 0]), 1, &[]), 12),
+        (table(&rows, 1, &letters), 13),
+        (table(&changed([1, 0, u64::MAX]), 1, &letters), 13),
+        (table(&changed([3, 0, 65]), 1, &letters), 12),
+        (table(&changed([9, 0, levels]), 1, &letters), 12),
+        (table(&changed([10, 0, 0]), 1, &letters), 12),
     ];
     agree("writing_limits::edts_in_edts", &cases);
 }
@@ -95,13 +94,13 @@ fn rows_that_overlap() {
     agree("writing_limits::rows_that_overlap", &cases);
 }
 
-/// Pairs of STRUCs, the second of each holding the next pair.
+/// Pairs of a string and a STRUC that holds the next pair, the last one two strings.
 #[test]
 fn broad_nests() {
     let pairs = 8_183;
-    let pair = |at: u64| {
-        let beneath = 2 * (pairs - 1 - at);
-        [[7, 0, 0], [7, beneath.min(2), beneath]]
+    let pair = |at: u64| match 2 * (pairs - 1 - at) {
+        0 => [EMPTY_STRING; 2],
+        beneath => [EMPTY_STRING, [7, 2, beneath]],
     };
     let rows: Vec<Row> = (0..pairs).flat_map(pair).collect();
     let inside = nest(17, 2, &rows);
@@ -117,6 +116,7 @@ pub fn integers(long: usize, short: usize) -> Vec<Item> {
 #[test]
 fn lengths() {
     let struc = |elements| tables::table(&[Item::Struc(elements)]);
+    let string = |count| struc(vec![Item::Char(66); count]);
     let bits = |count| Item::Bits(vec![true; count]);
     let mut cases = Vec::new();
     for (more, number) in [(0, 0), (1, 14), (2, 14)] {
@@ -124,11 +124,14 @@ fn lengths() {
         cases.push((tables::table(&integers(7_281, 7 + more)), number));
         cases.push((tables::table(&[bits(524_224 + 8 * more)]), number));
         cases.push((tables::table(&[bits(524_217 + 8 * more)]), number));
+        cases.push((string(65_532 + more), number));
         let fifteen = |inner| (0..15).fold(inner, |inner, _| vec![Item::Struc(inner)]);
         cases.push((tables::table(&fifteen(integers(7_275, 1 + more))), number));
     }
     let bits_alone = tables::table(&[bits(64 * 16_384)]);
     cases.push((bits_alone, 14));
+    cases.extend((131_065..=131_072).map(|count| (string(count), 14)));
+    cases.push((string(131_073), 12));
     cases.push((tables::table(&integers(16_384, 0)), 14));
     cases.push((tables::table(&integers(16_385, 0)), 12));
     cases.push((tables::table(&[bits(64 * 16_384 + 1)]), 12));
@@ -204,11 +207,8 @@ fn widths_and_sizes() {
     let mut items: Vec<Item> = shifts.map(Item::Int).collect();
     items.extend((0..=200).map(|count| Item::Bits((0..count).map(|bit| bit % 3 != 1).collect())));
     let sizes = (0..=300).chain(16_380..=16_383);
-    items.extend(
-        sizes
-            .clone()
-            .map(|size| Item::Struc(vec![Item::Char(66); size])),
-    );
+    let lengths = sizes.clone().chain(65_527..=65_540);
+    items.extend(lengths.map(|size| Item::Struc(vec![Item::Char(66); size])));
     items.extend(sizes.map(|size| Item::Struc(vec![Item::Int(7); size])));
     items.extend((7_279..7_285).map(|long| Item::Struc(integers(long, 2))));
     let mut checker = Checker::new();

@@ -43,16 +43,34 @@ fn every_table_of_one_row() {
         2,
         3,
         4,
+        7,
+        8,
+        9,
+        16,
+        17,
         63,
         64,
         65,
         127,
         128,
         1 << 32,
+        1 << 61,
         1 << 63,
+        u64::MAX - 6,
         u64::MAX,
     ];
-    let data: [&[u64]; 7] = [&[], &[0], &[1], &[1 << 63], &[0, 0], &[0, 1 << 63], &[0, 1]];
+    let data: [&[u64]; 10] = [
+        &[],
+        &[0],
+        &[1],
+        &[1 << 63],
+        &[0x41 << 56],
+        &[0x7F7F_7F7F_7F7F_7F7F],
+        &[0, 0],
+        &[0, 1 << 63],
+        &[0, 1],
+        &[0x7F7F_7F7F_7F7F_7F7F, 0x41 << 56],
+    ];
     let test = "writing_small_tables::every_table_of_one_row";
     every_table(test, &choices(&kinds, &words), 1, &data);
 }
@@ -61,15 +79,25 @@ fn every_table_of_one_row() {
 fn every_table_of_two_rows() {
     let choices = choices(&[1, 2, 3, 4, 5, 6, 7, 8, 9], &[0, 1, 2]);
     let test = "writing_small_tables::every_table_of_two_rows";
-    every_table(test, &choices, 2, &[&[], &[0], &[1 << 63, 1 << 62]]);
+    let data: [&[u64]; 5] = [
+        &[],
+        &[0],
+        &[1 << 63, 1 << 62],
+        &[1 << 62],
+        &[1 << 62, 1 << 62],
+    ];
+    every_table(test, &choices, 2, &data);
 }
 
 #[test]
 fn every_table_of_three_rows() {
     let leaves = [[1, 0, 64], [3, 0, 65], [2, 0, 0], [2, 1, 0], [2, 1, 1]];
-    let choices = [choices(&[7, 8], &[0, 1, 2, 3]), leaves.to_vec()].concat();
+    let strings = [[9, 0, 0], [9, 0, 1], [9, 1, 0], [9, 8, 1]];
+    let nests = choices(&[7, 8], &[0, 1, 2, 3]);
+    let choices = [&nests[..], &leaves, &strings].concat();
     let test = "writing_small_tables::every_table_of_three_rows";
-    every_table(test, &choices, 3, &[&[], &[1 << 63]]);
+    let data: [&[u64]; 4] = [&[], &[1 << 63], &[1 << 62], &[1 << 62, 1]];
+    every_table(test, &choices, 3, &data);
 }
 
 #[test]
@@ -90,6 +118,7 @@ fn every_nest_of_five_rows() {
         [8, 3, 4],
         [1, 0, 0],
         [3, 0, 1],
+        [9, 0, 0],
     ];
     let choices = [&strucs[..], &others].concat();
     let mut checker = Checker::new();

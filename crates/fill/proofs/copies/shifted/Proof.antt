@@ -1,8 +1,7 @@
--- A BITS row's place moves on, any other last word stays. Assumes nothing.
+-- The place of a BITS row or of a string moves on, any other last word stays. Assumes nothing.
 use borrow.Author.Needs.{needs}
-use Rattle.format.proofs.Choices.{ifEq-yes, ifEq-no}
-use mathlib.Core.Path.{sym, _∙_}
-use Rattle.fill.specs.Copies.{shift}
+use mathlib.Core.Path.{_∙_}
+use Rattle.fill.proofs.CopyLaws.{shift-bits, shift-string, shift-none}
 use Rattle.fill.proofs.copies.shifted.Statement.{statement}
 use Rattle.fill.proofs.copies.shifted.Tie as tie
 
@@ -10,12 +9,16 @@ wrapping-add-u64-requires : tie.Need-wrapping-add-u64-requires
 wrapping-add-u64-requires c κs = search needs
 
 returns : tie.Need-returns
-unfolding shift
-returns c = c .wrapping-add-u64 .ensures ∙ sym (ifEq-yes _ _ _ _ (c .before .if1 .taken))
+returns c = c .wrapping-add-u64 .ensures ∙ shift-bits _ _ _ (c .before .if1 .taken)
+
+wrapping-add-u64-requires-2 : tie.Need-wrapping-add-u64-requires-2
+wrapping-add-u64-requires-2 c κs = search needs
 
 returns-2 : tie.Need-returns-2
-unfolding shift
-returns-2 c = sym (ifEq-no _ _ _ _ (c .if1 .left))
+returns-2 c = c .wrapping-add-u642 .ensures ∙ shift-string _ _ _ (c .before .if2 .taken)
+
+returns-3 : tie.Need-returns-3
+returns-3 c = shift-none _ _ _ (c .before .if1 .left) (c .if2 .left)
 
 pub shifted-spec : {M : Type 1} → statement M
-shifted-spec = tie.close (tie.spec wrapping-add-u64-requires returns returns-2)
+shifted-spec = tie.close (tie.spec wrapping-add-u64-requires returns wrapping-add-u64-requires-2 returns-2 returns-3)

@@ -1,13 +1,12 @@
 -- Each head writes the rows that its items have. Assumes nothing.
-use Rattle.fill.proofs.Over.{still-three, over-none}
+use Rattle.fill.proofs.Over.{over-none}
 use borrow.Author.Needs.{needs}
 use native.Mathlib.Omega.{arith}
 use mathlib.Core.Path.{sym, ap, _∙_}
-use lib.ListN.{length-take, length-drop}
 use Rattle.format.specs.Bits.{bytesFor, wordsFor}
 use Rattle.format.specs.Answers.{over}
 use Rattle.fill.specs.Plain.{Apt, plainRows, plainPlaced}
-use Rattle.fill.proofs.PlainLaws.{text-rows, text-room, idle}
+use Rattle.fill.proofs.PlainLaws.{no-rows}
 use Rattle.fill.proofs.plain.put_plain.Statement.{statement}
 use Rattle.fill.proofs.plain.put_plain.Tie as tie
 
@@ -49,55 +48,6 @@ add-one-item-2 c = let a = rw (c .before .before .before .before .before .h3 .gi
 one-item-requires-3 : tie.Need-one-item-requires-3
 one-item-requires-3 c κs = search needs
 
-enum-known-h-4 : tie.Need-enum-known-h-4
-enum-known-h-4 c = search needs
-
-add-e : tie.Need-add-e
-unfolding plainRows plainPlaced Apt wordsFor bytesFor
-add-e c = let a = rw (c .before .h4 .given .1) at (c .before .before .before .before .before .pre .1) in omega arith
-
-sub-put-characters : tie.Need-sub-put-characters
-sub-put-characters c = search needs
-
-part-put-characters-start : tie.Need-part-put-characters-start
-part-put-characters-start c = search needs
-
-part-put-characters-end : tie.Need-part-put-characters-end
-unfolding plainRows plainPlaced Apt wordsFor bytesFor
-part-put-characters-end c = let a = rw (c .before .h4 .given .1) at (c .before .before .before .before .before .pre .1) in omega arith
-
-sub-put-characters-2 : tie.Need-sub-put-characters-2
-unfolding plainRows plainPlaced Apt wordsFor bytesFor
-sub-put-characters-2 c = let a = rw (c .before .before .h4 .given .1) at (c .before .before .before .before .before .before .pre .2) in omega arith
-
-part-put-characters-start-2 : tie.Need-part-put-characters-start-2
-unfolding plainRows plainPlaced Apt wordsFor bytesFor
-part-put-characters-start-2 c = let a = rw (c .before .before .h4 .given .1) at (c .before .before .before .before .before .before .pre .2) in omega arith
-
-part-put-characters-end-2 : tie.Need-part-put-characters-end-2
-part-put-characters-end-2 c = search needs
-
-put-characters-requires : tie.Need-put-characters-requires
-unfolding plainRows plainPlaced Apt wordsFor bytesFor
-put-characters-requires c κs =
-    let a = rw (c .before .before .before .h4 .given .1) at (c .before .before .before .before .before .before .before .pre .1) in
-    let r = rw (c .before .before .before .h4 .given .1) at (c .before .before .before .before .before .before .before .pre .2) in
-    let g = text-room (c .before .before .before .before .before .before .before .args .s .now) _ _ _ a r in
-    simp (length-take, length-drop) (omega arith)
-
-put-row-requires-4 : tie.Need-put-row-requires-4
-unfolding plainRows plainPlaced Apt wordsFor bytesFor
-put-row-requires-4 c κs =
-    let r = rw (c .before .before .before .before .before .before .before .h4 .given .1) at (c .before .before .before .before .before .before .before .before .before .before .before .pre .2) in
-    still-three (c .before .before .before .before .before .before .before .before .before .before .before .args .table .now) _ (omega arith)
-
-add-one-item-3 : tie.Need-add-one-item-3
-unfolding plainRows plainPlaced Apt wordsFor bytesFor
-add-one-item-3 c = let a = rw (c .before .before .before .before .before .before .before .before .before .before .h4 .given .1) at (c .before .before .before .before .before .before .before .before .before .before .before .before .before .before .pre .1) in omega arith
-
-one-item-requires-4 : tie.Need-one-item-requires-4
-one-item-requires-4 c κs = search needs
-
 same-length : tie.Need-same-length
 same-length c = search needs
 
@@ -119,20 +69,8 @@ returns-3 : tie.Need-returns-3
 unfolding plainRows plainPlaced Apt wordsFor bytesFor
 returns-3 c = rw (c .before .before .before .before .before .before .h3 .given .1) (c .one-item3 .ensures, c .before .before .before .put-row3 .ensures)
 
-same-length-4 : tie.Need-same-length-4
-same-length-4 c = search needs
-
 returns-4 : tie.Need-returns-4
-unfolding plainRows plainPlaced Apt wordsFor bytesFor
-returns-4 c =
-    let r = rw (c .before .before .before .before .before .before .before .before .before .before .before .h4 .given .1) at (c .before .before .before .before .before .before .before .before .before .before .before .before .before .before .before .pre .2) in
-    rw (c .before .before .before .before .before .before .before .before .before .before .before .h4 .given .1) (
-      c .one-item4 .ensures,
-      c .before .before .before .put-row4 .ensures ∙ text-rows (c .before .before .before .before .before .before .before .before .before .before .before .before .before .before .before .args .s .now) _ _ (c .before .before .before .before .before .before .before .before .before .before .before .before .before .before .before .args .table .now) _ (omega arith) (c .before .before .before .before .before .before .before .put-characters .ensures),
-    )
-
-returns-5 : tie.Need-returns-5
-returns-5 c = let i = idle (c .before .before .before .args .s .now) (c .before .before .before .args .h) (c .match .keys5) in (sym (i .0), sym (ap (λ l. over l (c .before .before .before .args .table .now)) (i .1 (c .before .before .before .args .base)) ∙ over-none (c .before .before .before .args .table .now)))
+returns-4 c = let i = no-rows (c .before .before .before .args .s .now) (c .before .before .before .args .h) (c .match .keys4) in (sym (i .0), sym (ap (λ l. over l (c .before .before .before .args .table .now)) (i .1 (c .before .before .before .args .base)) ∙ over-none (c .before .before .before .args .table .now)))
 
 pub put-plain-spec : {M : Type 1} → statement M
 put-plain-spec =
@@ -149,24 +87,10 @@ put-plain-spec =
     put-row-requires-3
     add-one-item-2
     one-item-requires-3
-    enum-known-h-4
-    add-e
-    sub-put-characters
-    part-put-characters-start
-    part-put-characters-end
-    sub-put-characters-2
-    part-put-characters-start-2
-    part-put-characters-end-2
-    put-characters-requires
-    put-row-requires-4
-    add-one-item-3
-    one-item-requires-4
     same-length
     returns
     same-length-2
     returns-2
     same-length-3
     returns-3
-    same-length-4
-    returns-4
-    returns-5)
+    returns-4)

@@ -4,7 +4,7 @@ use native.Mathlib.Omega.{arith}
 use borrow.Author.Needs.{needs}
 use lib.ListN.{length}
 use Rattle.listing.proofs.Putting.{nothing}
-use Rattle.listing.proofs.RowLines.{value-group, value-int, value-leaf, value-empty, value-plain}
+use Rattle.listing.proofs.RowLines.{value-text, value-group, value-int, value-leaf, value-empty, value-plain}
 use Rattle.listing.proofs.rows.put_value.Statement.{statement}
 use Rattle.listing.proofs.rows.put_value.Tie as tie
 
@@ -20,6 +20,18 @@ mul-kind-2 c = search needs
 shared-slice-read-kind : tie.Need-shared-slice-read-kind
 shared-slice-read-kind c = search needs
 
+put-string-requires : tie.Need-put-string-requires
+put-string-requires c κs =
+    let s = c .before .before .before .before .before .before in
+    let e = ap length (value-text (s .args .table .now) (s .args .p) (c .before .if2 .taken)) in
+    (s .pre .0 .text (c .before .if2 .taken), omega (arith, s .pre .1))
+
+same-length : tie.Need-same-length
+same-length c = search needs
+
+returns : tie.Need-returns
+returns c = rw (value-text _ _ (c .before .before .before .before .if2 .taken)) (c .before .before .put-string .ensures)
+
 mul-put-decimal : tie.Need-mul-put-decimal
 mul-put-decimal c = search needs
 
@@ -34,15 +46,15 @@ shared-slice-read-put-decimal c = search needs
 
 put-decimal-requires : tie.Need-put-decimal-requires
 put-decimal-requires c κs =
-    let s = c .before .before .before .before .before .before in
-    let e = ap length (value-group (s .args .table .now) (s .args .p) (c .before .before .if1 .taken)) in
+    let s = c .before .before .before .before .before .before .before in
+    let e = ap length (value-group (s .args .table .now) (s .args .p) (c .before .before .before .if1 .taken) (c .before .before .if2 .left)) in
     omega (arith, s .pre .1)
 
-same-length : tie.Need-same-length
-same-length c = search needs
+same-length-2 : tie.Need-same-length-2
+same-length-2 c = search needs
 
-returns : tie.Need-returns
-returns c = rw (value-group _ _ (c .before .before .before .before .before .if1 .taken)) (c .before .before .put-decimal .ensures)
+returns-2 : tie.Need-returns-2
+returns-2 c = rw (value-group _ _ (c .before .before .before .before .before .before .if1 .taken) (c .before .before .before .before .before .if2 .left)) (c .before .before .put-decimal .ensures)
 
 mul-b : tie.Need-mul-b
 mul-b c = search needs
@@ -59,43 +71,43 @@ shared-slice-read-b c = search needs
 put-signed-requires : tie.Need-put-signed-requires
 put-signed-requires c κs =
     let s = c .before .before .before .before .before .before .before in
-    let e = ap length (value-int (s .args .table .now) (s .args .p) (c .before .if2 .taken)) in
+    let e = ap length (value-int (s .args .table .now) (s .args .p) (c .before .if3 .taken)) in
     omega (arith, s .pre .1)
-
-same-length-2 : tie.Need-same-length-2
-same-length-2 c = search needs
-
-returns-2 : tie.Need-returns-2
-returns-2 c = rw (value-int _ _ (c .before .before .before .before .if2 .taken)) (c .before .before .put-signed .ensures)
-
-put-bits-requires : tie.Need-put-bits-requires
-put-bits-requires c κs =
-    let s = c .before .before .before .before .before .before .before .before in
-    let e = ap length (value-leaf (s .args .table .now) (s .args .p) (c .before .before .before .before .if1 .left)) in
-    ((s .pre .0 .leaf (omega arith), c .before .if3 .taken), omega (arith, s .pre .1))
 
 same-length-3 : tie.Need-same-length-3
 same-length-3 c = search needs
 
 returns-3 : tie.Need-returns-3
-returns-3 c = rw (value-leaf _ _ (c .before .before .before .before .before .before .before .if1 .left)) (c .before .before .put-bits .ensures)
+returns-3 c = rw (value-int _ _ (c .before .before .before .before .if3 .taken)) (c .before .before .put-signed .ensures)
 
-returns-4 : tie.Need-returns-4
-returns-4 c =
+put-bits-requires : tie.Need-put-bits-requires
+put-bits-requires c κs =
     let s = c .before .before .before .before .before .before .before .before in
-    rw (value-empty _ _ (s .pre .0 .leaf (omega arith)) (c .if4 .taken)) (nothing (s .args .at) (s .args .out .now) (omega (arith, s .pre .1)))
-
-put-decimal-requires-2 : tie.Need-put-decimal-requires-2
-put-decimal-requires-2 c κs =
-    let s = c .before .before .before .before .before .before .before .before .before in
-    let e = ap length (value-plain (s .args .table .now) (s .args .p) (s .pre .0 .leaf (omega arith)) (c .before .before .before .before .before .if1 .left) (c .before .before .before .if2 .left) (c .before .before .if3 .left) (c .before .if4 .left)) in
-    omega (arith, s .pre .1)
+    let e = ap length (value-leaf (s .args .table .now) (s .args .p) (c .before .before .before .before .if1 .left)) in
+    ((s .pre .0 .leaf (omega arith), c .before .if4 .taken), omega (arith, s .pre .1))
 
 same-length-4 : tie.Need-same-length-4
 same-length-4 c = search needs
 
+returns-4 : tie.Need-returns-4
+returns-4 c = rw (value-leaf _ _ (c .before .before .before .before .before .before .before .if1 .left)) (c .before .before .put-bits .ensures)
+
 returns-5 : tie.Need-returns-5
-returns-5 c = rw (value-plain _ _ (c .before .before .before .before .before .before .before .before .before .before .before .before .pre .0 .leaf (omega arith)) (c .before .before .before .before .before .before .before .before .if1 .left) (c .before .before .before .before .before .before .if2 .left) (c .before .before .before .before .before .if3 .left) (c .before .before .before .before .if4 .left)) (c .before .before .put-decimal2 .ensures)
+returns-5 c =
+    let s = c .before .before .before .before .before .before .before .before in
+    rw (value-empty _ _ (s .pre .0 .leaf (omega arith)) (c .if5 .taken)) (nothing (s .args .at) (s .args .out .now) (omega (arith, s .pre .1)))
+
+put-decimal-requires-2 : tie.Need-put-decimal-requires-2
+put-decimal-requires-2 c κs =
+    let s = c .before .before .before .before .before .before .before .before .before in
+    let e = ap length (value-plain (s .args .table .now) (s .args .p) (s .pre .0 .leaf (omega arith)) (c .before .before .before .before .before .if1 .left) (c .before .before .before .if3 .left) (c .before .before .if4 .left) (c .before .if5 .left)) in
+    omega (arith, s .pre .1)
+
+same-length-5 : tie.Need-same-length-5
+same-length-5 c = search needs
+
+returns-6 : tie.Need-returns-6
+returns-6 c = rw (value-plain _ _ (c .before .before .before .before .before .before .before .before .before .before .before .before .pre .0 .leaf (omega arith)) (c .before .before .before .before .before .before .before .before .if1 .left) (c .before .before .before .before .before .before .if3 .left) (c .before .before .before .before .before .if4 .left) (c .before .before .before .before .if5 .left)) (c .before .before .put-decimal2 .ensures)
 
 pub put-value-spec : {M : Type 1} → statement M
 put-value-spec =
@@ -105,24 +117,27 @@ put-value-spec =
     add-kind
     mul-kind-2
     shared-slice-read-kind
+    put-string-requires
+    same-length
+    returns
     mul-put-decimal
     add-put-decimal
     mul-put-decimal-2
     shared-slice-read-put-decimal
     put-decimal-requires
-    same-length
-    returns
+    same-length-2
+    returns-2
     mul-b
     add-b
     mul-b-2
     shared-slice-read-b
     put-signed-requires
-    same-length-2
-    returns-2
-    put-bits-requires
     same-length-3
     returns-3
-    returns-4
-    put-decimal-requires-2
+    put-bits-requires
     same-length-4
-    returns-5)
+    returns-4
+    returns-5
+    put-decimal-requires-2
+    same-length-5
+    returns-6)

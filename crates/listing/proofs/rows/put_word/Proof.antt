@@ -59,9 +59,16 @@ put-text-requires-7 c κs = let e = word-length (c .before .before .before .befo
 slice-aggregate-put-text-8 : tie.Need-slice-aggregate-put-text-8
 slice-aggregate-put-text-8 c = search needs
 
+slice-aggregate-put-text-9 : tie.Need-slice-aggregate-put-text-9
+slice-aggregate-put-text-9 c = search needs
+
 put-text-requires-8 : tie.Need-put-text-requires-8
 unfolding kindWord ifEq pick
-put-text-requires-8 c κs = rw (last-word (c .before .before .before .before .args .kind) (c .before .before .match .rest)) at (c .before .before .before .before .pre)
+put-text-requires-8 c κs = let e = word-length (c .before .before .before .before .args .kind) 9 (c .before .before .match .keys8) in omega arith
+
+put-text-requires-9 : tie.Need-put-text-requires-9
+unfolding kindWord ifEq pick
+put-text-requires-9 c κs = rw (last-word (c .before .before .before .before .args .kind) (c .before .before .match .rest .0) (c .before .before .match .rest .1)) at (c .before .before .before .before .pre)
 
 same-length : tie.Need-same-length
 same-length c = search needs
@@ -115,9 +122,16 @@ returns-7 c = word-of (c .before .before .before .before .before .before .before
 same-length-8 : tie.Need-same-length-8
 same-length-8 c = search needs
 
+same-length-9 : tie.Need-same-length-9
+same-length-9 c = search needs
+
 returns-8 : tie.Need-returns-8
 unfolding kindWord ifEq pick
-returns-8 c = rw (last-word (c .before .before .before .before .before .before .before .args .kind) (c .before .before .before .before .before .match .rest)) (c .before .before .put-text8 .ensures)
+returns-8 c = word-of (c .before .before .before .before .before .before .before .args .kind) 9 (c .before .before .before .before .before .match .keys8) (c .before .before .put-text8 .ensures)
+
+returns-9 : tie.Need-returns-9
+unfolding kindWord ifEq pick
+returns-9 c = rw (last-word (c .before .before .before .before .before .before .before .args .kind) (c .before .before .before .before .before .match .rest .0) (c .before .before .before .before .before .match .rest .1)) (c .before .before .put-text9 .ensures)
 
 pub put-word-spec : {M : Type 1} → statement M
 put-word-spec =
@@ -139,6 +153,8 @@ put-word-spec =
     put-text-requires-7
     slice-aggregate-put-text-8
     put-text-requires-8
+    slice-aggregate-put-text-9
+    put-text-requires-9
     same-length
     returns
     same-length-2
@@ -154,4 +170,6 @@ put-word-spec =
     same-length-7
     returns-7
     same-length-8
-    returns-8)
+    returns-8
+    same-length-9
+    returns-9)

@@ -8,10 +8,10 @@ use borrow.Fn.PlainCycle.{Measures, is, falls, and}
 use lib.ListN.{length-append}
 use Rattle.format.specs.Normal.{depth}
 use Rattle.writer.specs.Rows.{bAt, Run, itemsAt}
-use Rattle.writer.proofs.RunLaws.{leaf-step, group-step, leaf-adds, group-adds}
+use Rattle.writer.proofs.RunLaws.{leaf-step, group-step, text-step, leaf-adds, text-adds, group-adds}
 use Rattle.listing.specs.Lines.{lines}
 use Rattle.listing.proofs.Putting.{Part, part-start, part-step, part-end, part-room}
-use Rattle.listing.proofs.RunLines.{row-at, row-first, leaf-lines, group-lines, no-lines}
+use Rattle.listing.proofs.RunLines.{row-at, row-first, leaf-lines, group-lines, text-lines, no-lines}
 use Rattle.listing.proofs.walk.put_run.Reads as put-run
 use Rattle.listing.proofs.walk.put_run.Kinds as put-run-kinds
 use Rattle.listing.proofs.walk.+put_run.Lts-put_run as put-run-lts
@@ -122,6 +122,67 @@ put-run-loop-again t c =
     let d = leaf-adds _ _ _ l .1 in
     (omega arith, l .next, omega arith, part-step (s .inv .3) (leaf-lines _ _ _ (a .level) l) (c .before .before .before .before .put-row .ensures))
 
+put-run-mul-if2 : (t : ℕ) → put-run-lts.Need-mul-if2 (
+  put-row-reads.Asked,
+  put-row-reads.Learnt,
+  put-run-below t,
+  put-run.Post,
+) (put-run-at t) put-run.Post put-run-Inv-loop put-run-μ-loop
+put-run-mul-if2 t c = omega arith
+
+put-run-add-if2 : (t : ℕ) → put-run-lts.Need-add-if2 (
+  put-row-reads.Asked,
+  put-row-reads.Learnt,
+  put-run-below t,
+  put-run.Post,
+) (put-run-at t) put-run.Post put-run-Inv-loop put-run-μ-loop
+put-run-add-if2 t c = omega arith
+
+put-run-mul-if2-2 : (t : ℕ) → put-run-lts.Need-mul-if2-2 (
+  put-row-reads.Asked,
+  put-row-reads.Learnt,
+  put-run-below t,
+  put-run.Post,
+) (put-run-at t) put-run.Post put-run-Inv-loop put-run-μ-loop
+put-run-mul-if2-2 t c = omega arith
+
+put-run-shared-slice-read-if2 : (t : ℕ) → put-run-lts.Need-shared-slice-read-if2 (
+  put-row-reads.Asked,
+  put-row-reads.Learnt,
+  put-run-below t,
+  put-run.Post,
+) (put-run-at t) put-run.Post put-run-Inv-loop put-run-μ-loop
+put-run-shared-slice-read-if2 t c = omega arith
+
+put-run-add-p-2 : (t : ℕ) → put-run-lts.Need-add-p-2 (
+  put-row-reads.Asked,
+  put-row-reads.Learnt,
+  put-run-below t,
+  put-run.Post,
+) (put-run-at t) put-run.Post put-run-Inv-loop put-run-μ-loop
+put-run-add-p-2 t c = omega arith
+
+put-run-loop-less-2 : (t : ℕ) → put-run-lts.Need-loop-less-2 (
+  put-row-reads.Asked,
+  put-row-reads.Learnt,
+  put-run-below t,
+  put-run.Post,
+) (put-run-at t) put-run.Post put-run-Inv-loop put-run-μ-loop
+put-run-loop-less-2 t c = omega arith
+
+put-run-loop-again-2 : (t : ℕ) → put-run-lts.Need-loop-again-2 (
+  put-row-reads.Asked,
+  put-row-reads.Learnt,
+  put-run-below t,
+  put-run.Post,
+) (put-run-at t) put-run.Post put-run-Inv-loop put-run-μ-loop
+put-run-loop-again-2 t c =
+    let a = c .before .before .before .before .before .before .before .before .before .before .before .before .args in
+    let s = c .before .before .before .before .before .before .before .before .before .loop in
+    let l = text-step (a .table .now) (s .p) (a .to) (s .inv .1) (c .before .before .before .before .before .before .before .before .loop-test .taken) (c .if2 .taken) in
+    let d = text-adds _ _ _ l in
+    (omega arith, l .next, omega arith, part-step (s .inv .3) (text-lines _ _ _ (a .level) (c .if2 .taken) l) (c .before .before .before .before .before .before .put-row .ensures))
+
 put-run-add-next : (t : ℕ) → put-run-lts.Need-add-next (
   put-row-reads.Asked,
   put-row-reads.Learnt,
@@ -169,9 +230,9 @@ put-run-add-next-3 : (t : ℕ) → put-run-lts.Need-add-next-3 (
   put-run.Post,
 ) (put-run-at t) put-run.Post put-run-Inv-loop put-run-μ-loop
 put-run-add-next-3 t c =
-    let a = c .before .before .before .before .before .before .before .before .before .before .before .args in
-    let s = c .before .before .before .before .before .before .before .before .loop in
-    let g = group-step (a .table .now) (s .p) (a .to) (s .inv .1) (c .before .before .before .before .before .before .before .loop-test .taken) (c .before .if1 .left) in
+    let a = c .before .before .before .before .before .before .before .before .before .before .before .before .before .args in
+    let s = c .before .before .before .before .before .before .before .before .before .before .loop in
+    let g = group-step (a .table .now) (s .p) (a .to) (s .inv .1) (c .before .before .before .before .before .before .before .before .before .loop-test .taken) (c .before .before .before .if1 .left) (c .before .if2 .left) in
     let i = g .within in
     omega arith
 
@@ -182,9 +243,9 @@ put-run-add-put-run : (t : ℕ) → put-run-lts.Need-add-put-run (
   put-run.Post,
 ) (put-run-at t) put-run.Post put-run-Inv-loop put-run-μ-loop
 put-run-add-put-run t c =
-    let a = c .before .before .before .before .before .before .before .before .before .before .before .args in
-    let s = c .before .before .before .before .before .before .before .before .loop in
-    let g = group-step (a .table .now) (s .p) (a .to) (s .inv .1) (c .before .before .before .before .before .before .before .loop-test .taken) (c .before .if1 .left) in
+    let a = c .before .before .before .before .before .before .before .before .before .before .before .before .before .args in
+    let s = c .before .before .before .before .before .before .before .before .before .before .loop in
+    let g = group-step (a .table .now) (s .p) (a .to) (s .inv .1) (c .before .before .before .before .before .before .before .before .before .loop-test .taken) (c .before .before .before .if1 .left) (c .before .if2 .left) in
     let i = g .within in
     omega arith
 
@@ -203,41 +264,41 @@ put-run-put-run-requires : (t : ℕ) → put-run-lts.Need-put-run-requires (
   put-run.Post,
 ) (put-run-at t) put-run.Post put-run-Inv-loop put-run-μ-loop
 put-run-put-run-requires t c κs =
-    let a = c .before .before .before .before .before .before .before .before .before .before .before .before .args in
-    let s = c .before .before .before .before .before .before .before .before .before .loop in
+    let a = c .before .before .before .before .before .before .before .before .before .before .before .before .before .before .args in
+    let s = c .before .before .before .before .before .before .before .before .before .before .before .loop in
     let w = a .table .now in
     let next = s .p + 1 + bAt w (s .p) in
-    let g = group-step w (s .p) (a .to) (s .inv .1) (c .before .before .before .before .before .before .before .before .loop-test .taken) (c .before .before .if1 .left) in
+    let g = group-step w (s .p) (a .to) (s .inv .1) (c .before .before .before .before .before .before .before .before .before .before .loop-test .taken) (c .before .before .before .before .if1 .left) (c .before .before .if2 .left) in
     let d = group-adds _ _ _ g .1 in
-    let m = part-room (part-step (s .inv .3) (group-lines _ _ _ (a .level) (s .inv .1) g) (c .before .before .before .before .before .before .put-row .ensures)) in
+    let m = part-room (part-step (s .inv .3) (group-lines _ _ _ (a .level) (s .inv .1) g) (c .before .before .before .before .before .before .before .before .put-row .ensures)) in
     let n = length-append (lines (a .level + 1) (itemsAt w (s .p + 1) next)) (lines (a .level) (itemsAt w next (a .to))) in
-    (omega arith, ((g .inside, omega arith), omega (arith, c .before .before .before .before .before .before .before .before .before .before .before .before .pre .1 .1)))
+    (omega arith, ((g .inside, omega arith), omega (arith, c .before .before .before .before .before .before .before .before .before .before .before .before .before .before .pre .1 .1)))
 
-put-run-loop-less-2 : (t : ℕ) → put-run-lts.Need-loop-less-2 (
+put-run-loop-less-3 : (t : ℕ) → put-run-lts.Need-loop-less-3 (
   put-row-reads.Asked,
   put-row-reads.Learnt,
   put-run-below t,
   put-run.Post,
 ) (put-run-at t) put-run.Post put-run-Inv-loop put-run-μ-loop
-put-run-loop-less-2 t c =
-    let a = c .before .before .before .before .before .before .before .before .before .before .before .before .before .before .before .args in
-    let s = c .before .before .before .before .before .before .before .before .before .before .before .before .loop in
-    let g = group-step (a .table .now) (s .p) (a .to) (s .inv .1) (c .before .before .before .before .before .before .before .before .before .before .before .loop-test .taken) (c .before .before .before .before .before .if1 .left) in
+put-run-loop-less-3 t c =
+    let a = c .before .before .before .before .before .before .before .before .before .before .before .before .before .before .before .before .before .args in
+    let s = c .before .before .before .before .before .before .before .before .before .before .before .before .before .before .loop in
+    let g = group-step (a .table .now) (s .p) (a .to) (s .inv .1) (c .before .before .before .before .before .before .before .before .before .before .before .before .before .loop-test .taken) (c .before .before .before .before .before .before .before .if1 .left) (c .before .before .before .before .before .if2 .left) in
     let i = g .within in
     omega arith
 
-put-run-loop-again-2 : (t : ℕ) → put-run-lts.Need-loop-again-2 (
+put-run-loop-again-3 : (t : ℕ) → put-run-lts.Need-loop-again-3 (
   put-row-reads.Asked,
   put-row-reads.Learnt,
   put-run-below t,
   put-run.Post,
 ) (put-run-at t) put-run.Post put-run-Inv-loop put-run-μ-loop
-put-run-loop-again-2 t c =
-    let a = c .before .before .before .before .before .before .before .before .before .before .before .before .before .before .before .args in
-    let s = c .before .before .before .before .before .before .before .before .before .before .before .before .loop in
-    let g = group-step (a .table .now) (s .p) (a .to) (s .inv .1) (c .before .before .before .before .before .before .before .before .before .before .before .loop-test .taken) (c .before .before .before .before .before .if1 .left) in
+put-run-loop-again-3 t c =
+    let a = c .before .before .before .before .before .before .before .before .before .before .before .before .before .before .before .before .before .args in
+    let s = c .before .before .before .before .before .before .before .before .before .before .before .before .before .before .loop in
+    let g = group-step (a .table .now) (s .p) (a .to) (s .inv .1) (c .before .before .before .before .before .before .before .before .before .before .before .before .before .loop-test .taken) (c .before .before .before .before .before .before .before .if1 .left) (c .before .before .before .before .before .if2 .left) in
     let d = group-adds _ _ _ g .1 in
-    (g .within, g .next, omega arith, part-step (part-step (s .inv .3) (group-lines _ _ _ (a .level) (s .inv .1) g) (c .before .before .before .before .before .before .before .before .before .put-row .ensures)) refl (c .before .before .put-run .ensures))
+    (g .within, g .next, omega arith, part-step (part-step (s .inv .3) (group-lines _ _ _ (a .level) (s .inv .1) g) (c .before .before .before .before .before .before .before .before .before .before .before .put-row .ensures)) refl (c .before .before .put-run .ensures))
 
 put-run-same-length : (t : ℕ) → put-run-lts.Need-same-length (
   put-row-reads.Asked,
@@ -278,6 +339,13 @@ pub +put-run-spec : {M : Type 1} → statement M
     (put-run-add-p t)
     (put-run-loop-less t)
     (put-run-loop-again t)
+    (put-run-mul-if2 t)
+    (put-run-add-if2 t)
+    (put-run-mul-if2-2 t)
+    (put-run-shared-slice-read-if2 t)
+    (put-run-add-p-2 t)
+    (put-run-loop-less-2 t)
+    (put-run-loop-again-2 t)
     (put-run-add-next t)
     (put-run-mul-next t)
     (put-run-add-next-2 t)
@@ -287,7 +355,7 @@ pub +put-run-spec : {M : Type 1} → statement M
     (put-run-add-put-run t)
     (put-run-add-put-run-2 t)
     (put-run-put-run-requires t)
-    (put-run-loop-less-2 t)
-    (put-run-loop-again-2 t)
+    (put-run-loop-less-3 t)
+    (put-run-loop-again-3 t)
     (put-run-same-length t)
     (put-run-returns t)

@@ -1,8 +1,5 @@
--- `all_chars` meets its contract: they go up to the end. Assumes nothing.
+-- `all_chars` meets its contract. Assumes nothing.
 use mathlib.Core.Bool.{false≢true}
-use mathlib.Core.Path.{subst}
-use borrow.Author.Tests.{eqb-true}
-use Rattle.wire.specs.Ranges.{Between}
 use borrow.Author.Needs.{needs}
 use Rattle.scan.proofs.stretch.all_chars.Statement.{statement}
 use Rattle.scan.proofs.stretch.all_chars.Tie as tie
@@ -13,11 +10,11 @@ shared-slice-read-if1 c = search needs
 returns : tie.Need-returns
 returns c = λ e. absurd (false≢true e)
 
-until-requires : tie.Need-until-requires
-until-requires c κs = search needs
+all-low-requires : tie.Need-all-low-requires
+all-low-requires c κs = search needs
 
 returns-2 : tie.Need-returns-2
-returns-2 c = λ e. subst (λ n. Between 0 0x7f 0 n (c .before .before .before .before .args .s .now)) (eqb-true _ _ e) (c .until .ensures .2)
+returns-2 c = c .all-low .ensures
 
 pub all-chars-spec : {M : Type 1} → statement M
-all-chars-spec = tie.close (tie.spec shared-slice-read-if1 returns until-requires returns-2)
+all-chars-spec = tie.close (tie.spec shared-slice-read-if1 returns all-low-requires returns-2)

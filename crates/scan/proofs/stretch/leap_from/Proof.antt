@@ -19,8 +19,8 @@ class-of-requires c κs = search needs
 enum-told : tie.Need-enum-told
 enum-told c = search needs
 
-until-requires : tie.Need-until-requires
-until-requires c κs = search needs
+chars-end-requires : tie.Need-chars-end-requires
+chars-end-requires c κs = search needs
 
 sub-stretch-to : tie.Need-sub-stretch-to
 sub-stretch-to c = search needs
@@ -83,7 +83,7 @@ returns : tie.Need-returns
 returns c =
     let s = c .before .before .before .before .before .before .before .args .s .now in
     let i = c .before .before .before .before .before .before .before .args .i in
-    subst (Leapt s i) (sym (c .stretch-to .ensures)) (chars-leapt s i _ (c .before .until .ensures))
+    subst (Leapt s i) (sym (c .stretch-to .ensures)) (chars-leapt s i _ (c .before .chars-end .ensures))
 
 returns-2 : tie.Need-returns-2
 returns-2 c = search needs
@@ -131,7 +131,7 @@ leap-from-spec =
     shared-slice-read-b
     class-of-requires
     enum-told
-    until-requires
+    chars-end-requires
     sub-stretch-to
     stretch-to-requires
     enum-told-2

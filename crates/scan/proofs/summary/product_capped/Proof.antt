@@ -1,4 +1,4 @@
--- `product_capped` meets its contract: two numbers up to 65,536 have a product that fits. Assumes nothing.
+-- `product_capped` meets its contract: two numbers up to 524,288 have a product that fits. Assumes nothing.
 use Prim.Native.Nat.{_*_, _≤_}
 use native.Mathlib.Omega.{arith}
 use native.Mathlib.Nat.{mul-le-mul}
@@ -14,7 +14,12 @@ capped-requires-2 : tie.Need-capped-requires-2
 capped-requires-2 c κs = search needs
 
 mul-capped : tie.Need-mul-capped
-mul-capped c = let b : c .before .capped .result * c .capped2 .result ≤ 65536 * 65536 = mul-le-mul {n₂ = 65536} {m₂ = 65536} (omega arith) (omega arith) in omega arith
+mul-capped c =
+    let m = c .before .before .pre in
+    let a = c .before .capped .ensures in
+    let b = c .capped2 .ensures in
+    let p : c .before .capped .result * c .capped2 .result ≤ 524288 * 524288 = mul-le-mul {n₂ = 524288} {m₂ = 524288} (omega (arith, m, a)) (omega (arith, m, b)) in
+    omega arith
 
 capped-requires-3 : tie.Need-capped-requires-3
 capped-requires-3 c κs = search needs

@@ -1,7 +1,6 @@
--- `writer::judge::all_chars` meets its contract: what `fours_of_chars` leaves, a row at a time. Assumes nothing.
+-- `writer::judge::all_chars` meets its contract: each row passed is a CHAR, so the rest decides. Assumes nothing.
 use native.Mathlib.Omega.{arith}
-use borrow.Author.Needs.{needs}
-use mathlib.Core.Path.{_≡_, sym, _∙_}
+use mathlib.Core.Path.{_≡_, refl, sym, _∙_}
 use Prim.Native.Nat.{_≤_, _-_}
 use Rattle.writer.specs.Rows.{allChars}
 use Rattle.writer.proofs.RowLaws.{chars-out, chars-yes, chars-no}
@@ -14,11 +13,8 @@ Inv-loop table from to p₀ p = (p ≤ to) × (allChars table from to ≡ allCha
 abbrev μ-loop : tie.MeasureT-loop
 μ-loop table from to p₀ p = to - p
 
-fours-of-chars-requires : tie.Need-fours-of-chars-requires Inv-loop μ-loop
-fours-of-chars-requires c κs = search needs
-
 loop-holds : tie.Need-loop-holds Inv-loop μ-loop
-loop-holds c = c .fours-of-chars .ensures
+loop-holds c = (omega arith, refl)
 
 mul-if1 : tie.Need-mul-if1 Inv-loop μ-loop
 mul-if1 c = omega arith
@@ -53,7 +49,6 @@ all-chars-spec =
     (tie.spec
     Inv-loop
     μ-loop
-    fours-of-chars-requires
     loop-holds
     mul-if1
     add-if1

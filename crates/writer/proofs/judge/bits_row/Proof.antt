@@ -2,39 +2,14 @@
 use native.Mathlib.Omega.{arith}
 use mathlib.Core.Path.{refl, sym, ap₂, _∙_}
 use Prim.Native.Nat.{_+_, _*_, _-_, _^_, _%_, _/_}
-use lib.ListN.{getD}
 use lib.Pow.{pow-pos}
-use borrow.Author.Needs.{needs}
 use Rattle.format.specs.Bits.{wordsFor}
 use Rattle.format.proofs.Choices.{eq-true, eq-false}
 use Rattle.writer.specs.Rows.{lastWord}
 use Rattle.writer.proofs.RowLaws.{bits-first, bits-long, bits-spare, last-is}
+use borrow.Author.Needs.{needs}
 use Rattle.writer.proofs.judge.bits_row.Statement.{statement}
 use Rattle.writer.proofs.judge.bits_row.Tie as tie
-
-mul-bits : tie.Need-mul-bits
-mul-bits c = search needs
-
-add-bits : tie.Need-add-bits
-add-bits c = search needs
-
-mul-bits-2 : tie.Need-mul-bits-2
-mul-bits-2 c = search needs
-
-shared-slice-read-bits : tie.Need-shared-slice-read-bits
-shared-slice-read-bits c = search needs
-
-mul-first : tie.Need-mul-first
-mul-first c = search needs
-
-add-first : tie.Need-add-first
-add-first c = search needs
-
-mul-first-2 : tie.Need-mul-first-2
-mul-first-2 c = search needs
-
-shared-slice-read-first : tie.Need-shared-slice-read-first
-shared-slice-read-first c = search needs
 
 returns : tie.Need-returns
 returns c = bits-first _ _ _ _ (c .if1 .taken)
@@ -46,7 +21,7 @@ mul-if2 : tie.Need-mul-if2
 mul-if2 c = search needs
 
 returns-2 : tie.Need-returns-2
-returns-2 c = let e = c .before .before .before .before .before .pre .0 .words in bits-long _ _ _ _ (c .before .if1 .left) (omega arith)
+returns-2 c = let e = c .before .before .before .pre .0 .words in bits-long _ _ _ _ (c .before .if1 .left) (omega arith)
 
 add-used : tie.Need-add-used
 add-used c = search needs
@@ -79,36 +54,27 @@ power-requires : tie.Need-power-requires
 power-requires c κs = search needs
 
 rem-if3 : tie.Need-rem-if3
-rem-if3 c = omega (arith, c .power .ensures, pow-pos (64 * ((getD (c .before .before .before .before .before .before .before .args .table .now) (3 * c .before .before .before .before .before .before .before .args .p + 5) 0 + 63) / 64) - getD (c .before .before .before .before .before .before .before .args .table .now) (3 * c .before .before .before .before .before .before .before .args .p + 5) 0))
+rem-if3 c = omega (arith, c .power .ensures, pow-pos (64 * ((c .before .before .before .before .before .args .bits + 63) / 64) - c .before .before .before .before .before .args .bits))
 
 returns-3 : tie.Need-returns-3
 unfolding wordsFor
 returns-3 c =
-    let h = c .before .before .before .before .before .before .before .before .pre .0 in
+    let h = c .before .before .before .before .before .before .pre .0 in
     (bits-spare _ _ _ _ (c .before .before .before .before .if1 .left) (omega (arith, c .before .before .before .if2 .left)) ∙ eq-true _ 0 (ap₂ _%_ (sym (last-is _ _ _ _ (h .rows))) (sym (c .before .power .ensures)) ∙ c .if3 .taken), omega arith, refl)
 
 returns-4 : tie.Need-returns-4
 unfolding wordsFor
 returns-4 c =
-    let h = c .before .before .before .before .before .before .before .before .pre .0 in
-    let w = c .before .before .before .before .before .before .before .before .args .table .now in
-    let n = getD w (3 * c .before .before .before .before .before .before .before .before .args .p + 5) 0 in
-    let l = last-is w (c .before .before .before .before .before .before .before .before .args .rows) (c .before .before .before .before .before .before .before .before .args .past) n (h .rows) in
+    let h = c .before .before .before .before .before .before .pre .0 in
+    let a = c .before .before .before .before .before .before .args in
+    let l = last-is (a .table .now) (a .rows) (a .past) (a .bits) (h .rows) in
     bits-spare _ _ _ _ (c .before .before .before .before .if1 .left) (omega (arith, c .before .before .before .if2 .left))
-    ∙ eq-false (lastWord w (c .before .before .before .before .before .before .before .before .args .past) n % 2 ^ (64 * ((n + 63) / 64) - n)) 0 (λ z. c .if3 .left (ap₂ _%_ l (c .before .power .ensures) ∙ z))
+    ∙ eq-false (lastWord (a .table .now) (a .past) (a .bits) % 2 ^ (64 * ((a .bits + 63) / 64) - a .bits)) 0 (λ z. c .if3 .left (ap₂ _%_ l (c .before .power .ensures) ∙ z))
 
 pub bits-row-spec : {M : Type 1} → statement M
 bits-row-spec =
     tie.close
     (tie.spec
-    mul-bits
-    add-bits
-    mul-bits-2
-    shared-slice-read-bits
-    mul-first
-    add-first
-    mul-first-2
-    shared-slice-read-first
     returns
     sub-if2
     mul-if2

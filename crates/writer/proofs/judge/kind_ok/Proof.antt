@@ -1,7 +1,8 @@
 -- `writer::judge::kind_ok` meets its contract. Assumes nothing.
-use mathlib.Core.Path.{sym, _∙_}
-use borrow.Author.Needs.{needs}
+use mathlib.Core.Path.{sym, _∙_, ap}
+use mathlib.Core.Bool.{not}
 use Rattle.writer.proofs.RowLaws.{kind-struc, kind-edt, kind-other}
+use borrow.Author.Needs.{needs}
 use Rattle.writer.proofs.judge.kind_ok.Statement.{statement}
 use Rattle.writer.proofs.judge.kind_ok.Tie as tie
 
@@ -17,8 +18,14 @@ mul-kind-2 c = search needs
 shared-slice-read-kind : tie.Need-shared-slice-read-kind
 shared-slice-read-kind c = search needs
 
+add-all-chars : tie.Need-add-all-chars
+add-all-chars c = search needs
+
+all-chars-requires : tie.Need-all-chars-requires
+all-chars-requires c κs = search needs
+
 returns : tie.Need-returns
-returns c = sym (kind-struc _ _ _ (c .if1 .taken))
+returns c = ap not (c .all-chars .ensures) ∙ sym (kind-struc _ _ _ (c .before .if1 .taken))
 
 add-edt-rows : tie.Need-add-edt-rows
 add-edt-rows c = search needs
@@ -40,6 +47,8 @@ kind-ok-spec =
     add-kind
     mul-kind-2
     shared-slice-read-kind
+    add-all-chars
+    all-chars-requires
     returns
     add-edt-rows
     edt-rows-requires

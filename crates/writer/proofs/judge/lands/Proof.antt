@@ -22,17 +22,20 @@ returns c = sym (c .before .before .loop .inv .1 ∙ lands-out _ _ _ _ (c .befor
 sub-left : tie.Need-sub-left Inv-loop μ-loop
 sub-left c = omega arith
 
-mul-if2 : tie.Need-mul-if2 Inv-loop μ-loop
-mul-if2 c = omega arith
+mul-single : tie.Need-mul-single Inv-loop μ-loop
+mul-single c = omega arith
 
-add-if2 : tie.Need-add-if2 Inv-loop μ-loop
-add-if2 c = omega arith
+add-single : tie.Need-add-single Inv-loop μ-loop
+add-single c = omega arith
 
-mul-if2-2 : tie.Need-mul-if2-2 Inv-loop μ-loop
-mul-if2-2 c = omega arith
+mul-single-2 : tie.Need-mul-single-2 Inv-loop μ-loop
+mul-single-2 c = omega arith
 
-shared-slice-read-if2 : tie.Need-shared-slice-read-if2 Inv-loop μ-loop
-shared-slice-read-if2 c = omega arith
+shared-slice-read-single : tie.Need-shared-slice-read-single Inv-loop μ-loop
+shared-slice-read-single c = omega arith
+
+single-requires : tie.Need-single-requires Inv-loop μ-loop
+single-requires c κs = tt
 
 add-p : tie.Need-add-p Inv-loop μ-loop
 add-p c = omega arith
@@ -41,7 +44,7 @@ loop-less : tie.Need-loop-less Inv-loop μ-loop
 loop-less c = omega arith
 
 loop-again : tie.Need-loop-again Inv-loop μ-loop
-loop-again c = (omega arith, c .before .before .before .before .loop .inv .1 ∙ lands-leaf _ _ _ _ (c .before .before .before .loop-test .taken) (c .before .before .if1 .left) (c .if2 .taken))
+loop-again c = (omega arith, c .before .before .before .before .before .loop .inv .1 ∙ lands-leaf _ _ _ _ (c .before .before .before .before .loop-test .taken) (c .before .before .before .if1 .left) (sym (c .before .single .ensures) ∙ c .if2 .taken))
 
 mul-beneath : tie.Need-mul-beneath Inv-loop μ-loop
 mul-beneath c = omega arith
@@ -62,7 +65,7 @@ sub-if3 : tie.Need-sub-if3 Inv-loop μ-loop
 sub-if3 c = omega arith
 
 returns-2 : tie.Need-returns-2 Inv-loop μ-loop
-returns-2 c = sym (c .before .before .before .before .before .before .loop .inv .1 ∙ lands-short _ _ _ _ (c .before .before .before .before .before .loop-test .taken) (c .before .before .if2 .left) (c .if3 .taken))
+returns-2 c = sym (c .before .before .before .before .before .before .before .loop .inv .1 ∙ lands-short _ _ _ _ (c .before .before .before .before .before .before .loop-test .taken) (sym (c .before .before .before .single .ensures) ∙ c .before .before .if2 .left) (c .if3 .taken))
 
 add-p-2 : tie.Need-add-p-2 Inv-loop μ-loop
 add-p-2 c = omega arith
@@ -74,7 +77,7 @@ loop-less-2 : tie.Need-loop-less-2 Inv-loop μ-loop
 loop-less-2 c = omega arith
 
 loop-again-2 : tie.Need-loop-again-2 Inv-loop μ-loop
-loop-again-2 c = (omega arith, c .before .before .before .before .before .before .loop .inv .1 ∙ lands-group _ _ _ _ (c .before .before .before .before .before .loop-test .taken) (c .before .before .before .before .if1 .left) (c .before .before .if2 .left) (c .if3 .left))
+loop-again-2 c = (omega arith, c .before .before .before .before .before .before .before .loop .inv .1 ∙ lands-group _ _ _ _ (c .before .before .before .before .before .before .loop-test .taken) (c .before .before .before .before .before .if1 .left) (sym (c .before .before .before .single .ensures) ∙ c .before .before .if2 .left) (c .if3 .left))
 
 returns-3 : tie.Need-returns-3 Inv-loop μ-loop
 returns-3 c = sym (c .before .loop .inv .1 ∙ lands-end _ _ _ _ (omega arith))
@@ -88,10 +91,11 @@ lands-spec =
     loop-holds
     returns
     sub-left
-    mul-if2
-    add-if2
-    mul-if2-2
-    shared-slice-read-if2
+    mul-single
+    add-single
+    mul-single-2
+    shared-slice-read-single
+    single-requires
     add-p
     loop-less
     loop-again

@@ -3,7 +3,7 @@ use native.Mathlib.Omega.{arith}
 use mathlib.Core.Path.{sym, ap, _∙_}
 use lib.Dec.{ltb}
 use borrow.Author.Needs.{needs}
-use Rattle.writer.proofs.RowLaws.{plain-a, plain-codes, plain-int}
+use Rattle.writer.proofs.RowLaws.{plain-a, plain-values, plain-int}
 use Rattle.writer.proofs.judge.plain_ok.Statement.{statement}
 use Rattle.writer.proofs.judge.plain_ok.Tie as tie
 
@@ -13,11 +13,11 @@ returns c = sym (plain-a _ _ _ (c .if1 .taken))
 returns-2 : tie.Need-returns-2
 returns-2 c = sym (plain-int _ _ _ (c .before .if1 .left) (c .if2 .taken) (omega arith))
 
-codes-requires : tie.Need-codes-requires
-codes-requires c κs = search needs
+values-requires : tie.Need-values-requires
+values-requires c κs = search needs
 
 returns-3 : tie.Need-returns-3
-returns-3 c = ap (ltb _) (c .codes .ensures) ∙ sym (plain-codes _ _ _ (c .before .before .if1 .left))
+returns-3 c = ap (ltb _) (c .values .ensures) ∙ sym (plain-values _ _ _ (c .before .before .if1 .left))
 
 pub plain-ok-spec : {M : Type 1} → statement M
-plain-ok-spec = tie.close (tie.spec returns returns-2 codes-requires returns-3)
+plain-ok-spec = tie.close (tie.spec returns returns-2 values-requires returns-3)

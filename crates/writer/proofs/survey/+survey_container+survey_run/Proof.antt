@@ -20,7 +20,9 @@ use Rattle.writer.proofs.survey.survey_run.Kinds as survey-run-kinds
 use Rattle.writer.proofs.survey.+survey_container+survey_run.Lts-survey_run as survey-run-lts
 use Rattle.writer.proofs.judge.kind_ok.Reads as kind-ok-reads
 use Rattle.writer.proofs.numbers.size_length.Reads as size-length-reads
+use Rattle.writer.proofs.survey.next_row.Reads as next-row-reads
 use Rattle.writer.proofs.survey.survey_leaves.Reads as survey-leaves-reads
+use Rattle.writer.proofs.survey.survey_string.Reads as survey-string-reads
 use Rattle.writer.proofs.survey.+survey_container+survey_run.{statement}
 use Rattle.writer.proofs.survey.+survey_container+survey_run.Tie.{close}
 
@@ -57,6 +59,8 @@ survey-run-below t =
 -- what the called functions ask and tell; those of the cycle are called below the measure t
 abbrev survey-container-claims : ℕ → survey-container-lts.Claims
 survey-container-claims t = (
+  survey-string-reads.Asked,
+  survey-string-reads.Learnt,
   survey-run-below t,
   survey-run.Post,
   kind-ok-reads.Asked,
@@ -71,12 +75,32 @@ survey-run-claims t = (
   survey-leaves-reads.Learnt,
   survey-container-below t,
   survey-container.Post,
+  next-row-reads.Asked,
+  next-row-reads.Learnt,
 )
 
+survey-container-mul-if1 : (t : ℕ) → survey-container-lts.Need-mul-if1 (survey-container-claims t) (survey-container-at t) survey-container.Post
+survey-container-mul-if1 t c = omega arith
+
+survey-container-add-if1 : (t : ℕ) → survey-container-lts.Need-add-if1 (survey-container-claims t) (survey-container-at t) survey-container.Post
+survey-container-add-if1 t c = omega arith
+
+survey-container-mul-if1-2 : (t : ℕ) → survey-container-lts.Need-mul-if1-2 (survey-container-claims t) (survey-container-at t) survey-container.Post
+survey-container-mul-if1-2 t c = omega arith
+
+survey-container-shared-slice-read-if1 : (t : ℕ) → survey-container-lts.Need-shared-slice-read-if1 (survey-container-claims t) (survey-container-at t) survey-container.Post
+survey-container-shared-slice-read-if1 t c = omega arith
+
+survey-container-survey-string-requires : (t : ℕ) → survey-container-lts.Need-survey-string-requires (survey-container-claims t) (survey-container-at t) survey-container.Post
+survey-container-survey-string-requires t c κs = let r = c .before .before .before .pre .1 in ((r .0 .0, c .if1 .taken), r .1)
+
 survey-container-returns : (t : ℕ) → survey-container-lts.Need-returns (survey-container-claims t) (survey-container-at t) survey-container.Post
-survey-container-returns t c =
-    let r = c .before .before .pre .1 in
-    box-deepest _ _ _ (r .0 .0) _ _ _ (r .1 .0) (r .0 .1) _ (c .if1 .taken)
+survey-container-returns t c = c .survey-string .ensures
+
+survey-container-returns-2 : (t : ℕ) → survey-container-lts.Need-returns-2 (survey-container-claims t) (survey-container-at t) survey-container.Post
+survey-container-returns-2 t c =
+    let r = c .before .before .before .before .pre .1 in
+    box-deepest _ _ _ (r .0 .0) _ _ _ (r .1 .0) (r .0 .1) (c .before .if1 .left) _ (c .if2 .taken)
 
 survey-container-mul-beneath : (t : ℕ) → survey-container-lts.Need-mul-beneath (survey-container-claims t) (survey-container-at t) survey-container.Post
 survey-container-mul-beneath t c = omega arith
@@ -90,16 +114,16 @@ survey-container-mul-beneath-2 t c = omega arith
 survey-container-shared-slice-read-beneath : (t : ℕ) → survey-container-lts.Need-shared-slice-read-beneath (survey-container-claims t) (survey-container-at t) survey-container.Post
 survey-container-shared-slice-read-beneath t c = omega arith
 
-survey-container-add-if2 : (t : ℕ) → survey-container-lts.Need-add-if2 (survey-container-claims t) (survey-container-at t) survey-container.Post
-survey-container-add-if2 t c = omega arith
+survey-container-add-if3 : (t : ℕ) → survey-container-lts.Need-add-if3 (survey-container-claims t) (survey-container-at t) survey-container.Post
+survey-container-add-if3 t c = omega arith
 
-survey-container-sub-if2 : (t : ℕ) → survey-container-lts.Need-sub-if2 (survey-container-claims t) (survey-container-at t) survey-container.Post
-survey-container-sub-if2 t c = omega arith
+survey-container-sub-if3 : (t : ℕ) → survey-container-lts.Need-sub-if3 (survey-container-claims t) (survey-container-at t) survey-container.Post
+survey-container-sub-if3 t c = omega arith
 
-survey-container-returns-2 : (t : ℕ) → survey-container-lts.Need-returns-2 (survey-container-claims t) (survey-container-at t) survey-container.Post
-survey-container-returns-2 t c =
-    let r = c .before .before .before .before .pre .1 in
-    box-short _ _ _ (r .0 .0) _ _ _ (r .1 .0) (r .0 .1) (c .if2 .taken)
+survey-container-returns-3 : (t : ℕ) → survey-container-lts.Need-returns-3 (survey-container-claims t) (survey-container-at t) survey-container.Post
+survey-container-returns-3 t c =
+    let r = c .before .before .before .before .before .before .pre .1 in
+    box-short _ _ _ (r .0 .0) _ _ _ (r .1 .0) (r .0 .1) (c .before .before .before .if1 .left) (c .if3 .taken)
 
 survey-container-add-next : (t : ℕ) → survey-container-lts.Need-add-next (survey-container-claims t) (survey-container-at t) survey-container.Post
 survey-container-add-next t c = omega arith
@@ -115,7 +139,7 @@ survey-container-sub-survey-run t c = omega arith
 
 survey-container-survey-run-requires : (t : ℕ) → survey-container-lts.Need-survey-run-requires (survey-container-claims t) (survey-container-at t) survey-container.Post
 survey-container-survey-run-requires t c κs =
-    let r = c .before .before .before .before .pre .1 in
+    let r = c .before .before .before .before .before .before .pre .1 in
     (omega arith, (r .0 .0, (omega arith, omega arith, omega arith)))
 
 survey-container-enum-told : (t : ℕ) → survey-container-lts.Need-enum-told (survey-container-claims t) (survey-container-at t) survey-container.Post
@@ -127,23 +151,23 @@ survey-container-enum-told-2 t c = search needs
 survey-container-enum-known-inner : (t : ℕ) → survey-container-lts.Need-enum-known-inner (survey-container-claims t) (survey-container-at t) survey-container.Post
 survey-container-enum-known-inner t c = search needs
 
-survey-container-mul-if3 : (t : ℕ) → survey-container-lts.Need-mul-if3 (survey-container-claims t) (survey-container-at t) survey-container.Post
-survey-container-mul-if3 t c = omega arith
+survey-container-mul-if4 : (t : ℕ) → survey-container-lts.Need-mul-if4 (survey-container-claims t) (survey-container-at t) survey-container.Post
+survey-container-mul-if4 t c = omega arith
 
-survey-container-add-if3 : (t : ℕ) → survey-container-lts.Need-add-if3 (survey-container-claims t) (survey-container-at t) survey-container.Post
-survey-container-add-if3 t c = omega arith
+survey-container-add-if4 : (t : ℕ) → survey-container-lts.Need-add-if4 (survey-container-claims t) (survey-container-at t) survey-container.Post
+survey-container-add-if4 t c = omega arith
 
-survey-container-mul-if3-2 : (t : ℕ) → survey-container-lts.Need-mul-if3-2 (survey-container-claims t) (survey-container-at t) survey-container.Post
-survey-container-mul-if3-2 t c = omega arith
+survey-container-mul-if4-2 : (t : ℕ) → survey-container-lts.Need-mul-if4-2 (survey-container-claims t) (survey-container-at t) survey-container.Post
+survey-container-mul-if4-2 t c = omega arith
 
-survey-container-shared-slice-read-if3 : (t : ℕ) → survey-container-lts.Need-shared-slice-read-if3 (survey-container-claims t) (survey-container-at t) survey-container.Post
-survey-container-shared-slice-read-if3 t c = omega arith
+survey-container-shared-slice-read-if4 : (t : ℕ) → survey-container-lts.Need-shared-slice-read-if4 (survey-container-claims t) (survey-container-at t) survey-container.Post
+survey-container-shared-slice-read-if4 t c = omega arith
 
-survey-container-returns-3 : (t : ℕ) → survey-container-lts.Need-returns-3 (survey-container-claims t) (survey-container-at t) survey-container.Post
-survey-container-returns-3 t c =
-    let r = c .before .before .before .before .before .before .before .before .before .before .pre .1 in
+survey-container-returns-4 : (t : ℕ) → survey-container-lts.Need-returns-4 (survey-container-claims t) (survey-container-at t) survey-container.Post
+survey-container-returns-4 t c =
+    let r = c .before .before .before .before .before .before .before .before .before .before .before .before .pre .1 in
     let j = rw (c .before .before .before .inner .given .1) at (c .before .before .before .before .before .survey-run .ensures) in
-    box-count _ _ _ (r .0 .0) _ _ _ (r .1 .0) (r .0 .1) _ _ _ _ (omega arith) j (c .if3 .taken)
+    box-count _ _ _ (r .0 .0) _ _ _ (r .1 .0) (r .0 .1) (c .before .before .before .before .before .before .before .before .before .if1 .left) _ _ _ _ (omega arith) j (c .if4 .taken)
 
 survey-container-kind-ok-requires : (t : ℕ) → survey-container-lts.Need-kind-ok-requires (survey-container-claims t) (survey-container-at t) survey-container.Post
 survey-container-kind-ok-requires t c κs = omega arith
@@ -151,42 +175,42 @@ survey-container-kind-ok-requires t c κs = omega arith
 survey-container-size-length-requires : (t : ℕ) → survey-container-lts.Need-size-length-requires (survey-container-claims t) (survey-container-at t) survey-container.Post
 survey-container-size-length-requires t c κs = search needs
 
-survey-container-add-t20 : (t : ℕ) → survey-container-lts.Need-add-t20 (survey-container-claims t) (survey-container-at t) survey-container.Post
-survey-container-add-t20 t c =
-    let r = c .before .before .before .before .before .before .before .before .before .before .before .before .before .pre .1 in
-    let j = rw (c .before .before .before .before .before .before .inner .given .1) at (c .before .before .before .before .before .before .before .before .survey-run .ensures) in
-    let b = passed-bound _ _ _ (r .0 .0) _ _ _ _ _ _ _ (omega arith) j in
-    omega (arith, c .size-length .ensures, size-short (c .before .before .before .before .before .before .inner .given .0 .0) (omega arith))
-
 survey-container-add-t21 : (t : ℕ) → survey-container-lts.Need-add-t21 (survey-container-claims t) (survey-container-at t) survey-container.Post
 survey-container-add-t21 t c =
-    let r = c .before .before .before .before .before .before .before .before .before .before .before .before .before .pre .1 in
+    let r = c .before .before .before .before .before .before .before .before .before .before .before .before .before .before .before .pre .1 in
     let j = rw (c .before .before .before .before .before .before .inner .given .1) at (c .before .before .before .before .before .before .before .before .survey-run .ensures) in
     let b = passed-bound _ _ _ (r .0 .0) _ _ _ _ _ _ _ (omega arith) j in
     omega (arith, c .size-length .ensures, size-short (c .before .before .before .before .before .before .inner .given .0 .0) (omega arith))
 
-survey-container-returns-4 : (t : ℕ) → survey-container-lts.Need-returns-4 (survey-container-claims t) (survey-container-at t) survey-container.Post
-survey-container-returns-4 t c =
-    let r = c .before .before .before .before .before .before .before .before .before .before .before .before .pre .1 in
-    box-kind _ _ _ (r .0 .0) _ _ _ (r .1 .0) (r .0 .1) (sym (c .before .kind-ok .ensures) ∙ not-true _ (c .if4 .taken))
+survey-container-add-t22 : (t : ℕ) → survey-container-lts.Need-add-t22 (survey-container-claims t) (survey-container-at t) survey-container.Post
+survey-container-add-t22 t c =
+    let r = c .before .before .before .before .before .before .before .before .before .before .before .before .before .before .before .pre .1 in
+    let j = rw (c .before .before .before .before .before .before .inner .given .1) at (c .before .before .before .before .before .before .before .before .survey-run .ensures) in
+    let b = passed-bound _ _ _ (r .0 .0) _ _ _ _ _ _ _ (omega arith) j in
+    omega (arith, c .size-length .ensures, size-short (c .before .before .before .before .before .before .inner .given .0 .0) (omega arith))
 
 survey-container-returns-5 : (t : ℕ) → survey-container-lts.Need-returns-5 (survey-container-claims t) (survey-container-at t) survey-container.Post
 survey-container-returns-5 t c =
-    let r = c .before .before .before .before .before .before .before .pre .1 in
-    let j = rw (c .enum-told .given .1) at (c .before .before .survey-run .ensures) in
-    box-wrong _ _ _ (r .0 .0) _ _ _ (r .1 .0) (r .0 .1) j
+    let r = c .before .before .before .before .before .before .before .before .before .before .before .before .before .before .pre .1 in
+    box-kind _ _ _ (r .0 .0) _ _ _ (r .1 .0) (r .0 .1) (c .before .before .before .before .before .before .before .before .before .before .before .if1 .left) (sym (c .before .kind-ok .ensures) ∙ not-true _ (c .if5 .taken))
 
 survey-container-returns-6 : (t : ℕ) → survey-container-lts.Need-returns-6 (survey-container-claims t) (survey-container-at t) survey-container.Post
 survey-container-returns-6 t c =
-    let r = c .before .before .before .before .before .before .before .pre .1 in
-    let j = rw (c .enum-told2 .given .1) at (c .before .before .survey-run .ensures) in
-    box-deep _ _ _ (r .0 .0) _ _ _ (r .1 .0) (r .0 .1) _ (c .before .before .before .before .before .if1 .left) j
+    let r = c .before .before .before .before .before .before .before .before .before .pre .1 in
+    let j = rw (c .enum-told .given .1) at (c .before .before .survey-run .ensures) in
+    box-wrong _ _ _ (r .0 .0) _ _ _ (r .1 .0) (r .0 .1) (c .before .before .before .before .before .before .if1 .left) j
 
 survey-container-returns-7 : (t : ℕ) → survey-container-lts.Need-returns-7 (survey-container-claims t) (survey-container-at t) survey-container.Post
 survey-container-returns-7 t c =
-    let r = c .before .before .before .before .before .before .before .before .before .before .before .before .before .pre .1 in
+    let r = c .before .before .before .before .before .before .before .before .before .pre .1 in
+    let j = rw (c .enum-told2 .given .1) at (c .before .before .survey-run .ensures) in
+    box-deep _ _ _ (r .0 .0) _ _ _ (r .1 .0) (r .0 .1) (c .before .before .before .before .before .before .if1 .left) _ (c .before .before .before .before .before .if2 .left) j
+
+survey-container-returns-8 : (t : ℕ) → survey-container-lts.Need-returns-8 (survey-container-claims t) (survey-container-at t) survey-container.Post
+survey-container-returns-8 t c =
+    let r = c .before .before .before .before .before .before .before .before .before .before .before .before .before .before .before .pre .1 in
     let j = rw (c .before .before .before .before .before .before .inner .given .1) at (c .before .before .before .before .before .before .before .before .survey-run .ensures) in
-    (omega arith, box-whole _ _ _ (r .0 .0) _ _ _ (r .1 .0) (r .0 .1) _ _ _ _ (omega arith) j (c .before .before .before .before .before .before .before .before .before .before .before .if1 .left) (c .before .before .before .if3 .left) (sym (c .before .before .kind-ok .ensures) ∙ not-false _ (c .before .if4 .left)) _ (c .size-length .ensures))
+    box-whole _ _ _ (r .0 .0) _ _ _ (r .1 .0) (r .0 .1) (c .before .before .before .before .before .before .before .before .before .before .before .before .if1 .left) _ _ _ _ (omega arith) j (c .before .before .before .before .before .before .before .before .before .before .before .if2 .left) (c .before .before .before .if4 .left) (sym (c .before .before .kind-ok .ensures) ∙ not-false _ (c .before .if5 .left)) _ (c .size-length .ensures) (omega arith)
 
 abbrev survey-run-Inv-loop : survey-run-lts.InvT-loop
 survey-run-Inv-loop table from to before depth p₀ past₀ count₀ n₀ p past count n =
@@ -278,44 +302,29 @@ survey-run-enum-known-one t c = search needs
 survey-run-add-n-2 : (t : ℕ) → survey-run-lts.Need-add-n-2 (survey-run-claims t) (survey-run-at t) survey-run.Post survey-run-Inv-loop survey-run-μ-loop
 survey-run-add-n-2 t c =
     let j = rw (c .before .one .given .1) at (c .before .before .before .survey-container .ensures) in
-    let b = passed-bound _ _ _ (c .before .before .before .before .before .before .before .before .before .pre .1 .0) _ _ _ _ _ _ _ (omega arith) (box-on _ _ _ _ _ _ _ _ _ _ (c .before .before .before .before .before .before .before .loop .inv .1) (c .before .before .before .before .before .before .before .loop .inv .0) _ _ _ _ (j .1)) in
+    let b = passed-bound _ _ _ (c .before .before .before .before .before .before .before .before .before .pre .1 .0) _ _ _ _ _ _ _ (omega arith) (box-on _ _ _ _ _ _ _ _ _ _ (c .before .before .before .before .before .before .before .loop .inv .1) (c .before .before .before .before .before .before .before .loop .inv .0) _ _ _ _ (j .2)) in
     omega arith
 
 survey-run-add-count-2 : (t : ℕ) → survey-run-lts.Need-add-count-2 (survey-run-claims t) (survey-run-at t) survey-run.Post survey-run-Inv-loop survey-run-μ-loop
 survey-run-add-count-2 t c =
     let j = rw (c .before .one .given .1) at (c .before .before .before .survey-container .ensures) in
-    let b = passed-bound _ _ _ (c .before .before .before .before .before .before .before .before .before .pre .1 .0) _ _ _ _ _ _ _ (omega arith) (box-on _ _ _ _ _ _ _ _ _ _ (c .before .before .before .before .before .before .before .loop .inv .1) (c .before .before .before .before .before .before .before .loop .inv .0) _ _ _ _ (j .1)) in
+    let b = passed-bound _ _ _ (c .before .before .before .before .before .before .before .before .before .pre .1 .0) _ _ _ _ _ _ _ (omega arith) (box-on _ _ _ _ _ _ _ _ _ _ (c .before .before .before .before .before .before .before .loop .inv .1) (c .before .before .before .before .before .before .before .loop .inv .0) _ _ _ _ (j .2)) in
     omega arith
 
-survey-run-add-p : (t : ℕ) → survey-run-lts.Need-add-p (survey-run-claims t) (survey-run-at t) survey-run.Post survey-run-Inv-loop survey-run-μ-loop
-survey-run-add-p t c = omega arith
-
-survey-run-mul-p : (t : ℕ) → survey-run-lts.Need-mul-p (survey-run-claims t) (survey-run-at t) survey-run.Post survey-run-Inv-loop survey-run-μ-loop
-survey-run-mul-p t c = omega arith
-
-survey-run-add-p-2 : (t : ℕ) → survey-run-lts.Need-add-p-2 (survey-run-claims t) (survey-run-at t) survey-run.Post survey-run-Inv-loop survey-run-μ-loop
-survey-run-add-p-2 t c = omega arith
-
-survey-run-mul-p-2 : (t : ℕ) → survey-run-lts.Need-mul-p-2 (survey-run-claims t) (survey-run-at t) survey-run.Post survey-run-Inv-loop survey-run-μ-loop
-survey-run-mul-p-2 t c = omega arith
-
-survey-run-shared-slice-read-p : (t : ℕ) → survey-run-lts.Need-shared-slice-read-p (survey-run-claims t) (survey-run-at t) survey-run.Post survey-run-Inv-loop survey-run-μ-loop
-survey-run-shared-slice-read-p t c = omega arith
-
-survey-run-add-p-3 : (t : ℕ) → survey-run-lts.Need-add-p-3 (survey-run-claims t) (survey-run-at t) survey-run.Post survey-run-Inv-loop survey-run-μ-loop
-survey-run-add-p-3 t c =
-    let j = rw (c .before .before .one .given .1) at (c .before .before .before .before .survey-container .ensures) in
-    omega (arith, j .0)
+survey-run-next-row-requires : (t : ℕ) → survey-run-lts.Need-next-row-requires (survey-run-claims t) (survey-run-at t) survey-run.Post survey-run-Inv-loop survey-run-μ-loop
+survey-run-next-row-requires t c κs =
+    let j = rw (c .before .one .given .1) at (c .before .before .before .survey-container .ensures) in
+    omega (arith, j .0, j .1)
 
 survey-run-loop-less-2 : (t : ℕ) → survey-run-lts.Need-loop-less-2 (survey-run-claims t) (survey-run-at t) survey-run.Post survey-run-Inv-loop survey-run-μ-loop
 survey-run-loop-less-2 t c =
     let j = rw (c .before .before .one .given .1) at (c .before .before .before .before .survey-container .ensures) in
-    omega (arith, j .0)
+    omega (arith, j .0, j .1, c .next-row .ensures)
 
 survey-run-loop-again-2 : (t : ℕ) → survey-run-lts.Need-loop-again-2 (survey-run-claims t) (survey-run-at t) survey-run.Post survey-run-Inv-loop survey-run-μ-loop
 survey-run-loop-again-2 t c =
     let j = rw (c .before .before .one .given .1) at (c .before .before .before .before .survey-container .ensures) in
-    (j .0, box-on _ _ _ _ _ _ _ _ _ _ (c .before .before .before .before .before .before .before .before .loop .inv .1) (c .before .before .before .before .before .before .before .before .loop .inv .0) _ _ _ _ (j .1))
+    rw (c .next-row .ensures) (j .1, box-on _ _ _ _ _ _ _ _ _ _ (c .before .before .before .before .before .before .before .before .loop .inv .1) (c .before .before .before .before .before .before .before .before .loop .inv .0) _ _ _ _ (j .2))
 
 survey-run-returns-4 : (t : ℕ) → survey-run-lts.Need-returns-4 (survey-run-claims t) (survey-run-at t) survey-run.Post survey-run-Inv-loop survey-run-μ-loop
 survey-run-returns-4 t c =
@@ -327,14 +336,20 @@ pub +survey-container+survey-run-spec : {M : Type 1} → statement M
     close μ-survey-container μ-survey-run (λ t. survey-container-lts.spec (survey-container-claims t)
     (survey-container-at t)
     survey-container.Post
+    (survey-container-mul-if1 t)
+    (survey-container-add-if1 t)
+    (survey-container-mul-if1-2 t)
+    (survey-container-shared-slice-read-if1 t)
+    (survey-container-survey-string-requires t)
     (survey-container-returns t)
+    (survey-container-returns-2 t)
     (survey-container-mul-beneath t)
     (survey-container-add-beneath t)
     (survey-container-mul-beneath-2 t)
     (survey-container-shared-slice-read-beneath t)
-    (survey-container-add-if2 t)
-    (survey-container-sub-if2 t)
-    (survey-container-returns-2 t)
+    (survey-container-add-if3 t)
+    (survey-container-sub-if3 t)
+    (survey-container-returns-3 t)
     (survey-container-add-next t)
     (survey-container-add-next-2 t)
     (survey-container-add-survey-run t)
@@ -343,19 +358,19 @@ pub +survey-container+survey-run-spec : {M : Type 1} → statement M
     (survey-container-enum-told t)
     (survey-container-enum-told-2 t)
     (survey-container-enum-known-inner t)
-    (survey-container-mul-if3 t)
-    (survey-container-add-if3 t)
-    (survey-container-mul-if3-2 t)
-    (survey-container-shared-slice-read-if3 t)
-    (survey-container-returns-3 t)
-    (survey-container-kind-ok-requires t)
+    (survey-container-mul-if4 t)
+    (survey-container-add-if4 t)
+    (survey-container-mul-if4-2 t)
+    (survey-container-shared-slice-read-if4 t)
     (survey-container-returns-4 t)
-    (survey-container-size-length-requires t)
-    (survey-container-add-t20 t)
-    (survey-container-add-t21 t)
+    (survey-container-kind-ok-requires t)
     (survey-container-returns-5 t)
+    (survey-container-size-length-requires t)
+    (survey-container-add-t21 t)
+    (survey-container-add-t22 t)
     (survey-container-returns-6 t)
-    (survey-container-returns-7 t))
+    (survey-container-returns-7 t)
+    (survey-container-returns-8 t))
     λ t. survey-run-lts.spec (survey-run-claims t)
     (survey-run-at t)
     survey-run.Post
@@ -383,12 +398,7 @@ pub +survey-container+survey-run-spec : {M : Type 1} → statement M
     (survey-run-enum-known-one t)
     (survey-run-add-n-2 t)
     (survey-run-add-count-2 t)
-    (survey-run-add-p t)
-    (survey-run-mul-p t)
-    (survey-run-add-p-2 t)
-    (survey-run-mul-p-2 t)
-    (survey-run-shared-slice-read-p t)
-    (survey-run-add-p-3 t)
+    (survey-run-next-row-requires t)
     (survey-run-loop-less-2 t)
     (survey-run-loop-again-2 t)
     (survey-run-returns-4 t)

@@ -1,9 +1,9 @@
 -- `writer::survey::survey_leaf` meets its contract. Assumes nothing.
 use mathlib.Core.Path.{sym, _∙_}
 use native.Mathlib.Omega.{arith}
-use borrow.Author.Needs.{needs}
 use Rattle.format.specs.Bits.{wordsFor}
 use Rattle.writer.proofs.Surveying.{plain-passed, bits-passed, no-plain, no-bits, one-row}
+use borrow.Author.Needs.{needs}
 use Rattle.writer.proofs.survey.survey_leaf.Statement.{statement}
 use Rattle.writer.proofs.survey.survey_leaf.Tie as tie
 
@@ -25,6 +25,30 @@ shared-slice-read-rows c = search needs
 shared-slice-read-words : tie.Need-shared-slice-read-words
 shared-slice-read-words c = search needs
 
+mul-bits-row : tie.Need-mul-bits-row
+mul-bits-row c = search needs
+
+add-bits-row : tie.Need-add-bits-row
+add-bits-row c = search needs
+
+mul-bits-row-2 : tie.Need-mul-bits-row-2
+mul-bits-row-2 c = search needs
+
+shared-slice-read-bits-row : tie.Need-shared-slice-read-bits-row
+shared-slice-read-bits-row c = search needs
+
+mul-bits-row-3 : tie.Need-mul-bits-row-3
+mul-bits-row-3 c = search needs
+
+add-bits-row-2 : tie.Need-add-bits-row-2
+add-bits-row-2 c = search needs
+
+mul-bits-row-4 : tie.Need-mul-bits-row-4
+mul-bits-row-4 c = search needs
+
+shared-slice-read-bits-row-2 : tie.Need-shared-slice-read-bits-row-2
+shared-slice-read-bits-row-2 c = search needs
+
 bits-row-requires : tie.Need-bits-row-requires
 bits-row-requires c κs = search needs
 
@@ -34,7 +58,7 @@ enum-told c = search needs
 returns : tie.Need-returns
 returns c =
     let j = rw (c .enum-told .given .1) at (c .before .before .bits-row .ensures) in
-    no-bits _ _ _ (c .before .before .before .before .before .before .before .before .pre .0 .0) (λ i. omega (arith, c .before .before .before .before .before .before .before .shared-slice-known .given i)) _ _ (omega arith) (omega arith) _ (omega arith) (c .before .before .before .before .before .if1 .taken) j
+    no-bits _ _ _ (c .before .before .before .before .before .before .before .before .before .before .pre .0 .0) (λ i. omega (arith, c .before .before .before .before .before .before .before .before .before .shared-slice-known .given i)) _ _ (omega arith) (omega arith) _ (omega arith) (c .before .before .before .before .before .before .before .if1 .taken) j
 
 enum-known-row : tie.Need-enum-known-row
 enum-known-row c = search needs
@@ -55,16 +79,16 @@ bits-length-requires : tie.Need-bits-length-requires
 unfolding wordsFor
 bits-length-requires c κs =
     let j = rw (c .before .before .row .given .1) at (c .before .before .before .before .bits-row .ensures) in
-    let h = c .before .before .before .before .before .before .before .before .before .before .pre .0 .0 .little in
+    let h = c .before .before .before .before .before .before .before .before .before .before .before .before .pre .0 .0 .little in
     omega (arith, j .1, j .2)
 
-add-t26 : tie.Need-add-t26
-add-t26 c = search needs
+add-t37 : tie.Need-add-t37
+add-t37 c = search needs
 
-add-t27 : tie.Need-add-t27
-add-t27 c =
+add-t38 : tie.Need-add-t38
+add-t38 c =
     let j = rw (c .before .before .before .row .given .1) at (c .before .before .before .before .before .bits-row .ensures) in
-    let h = c .before .before .before .before .before .before .before .before .before .before .before .pre .0 .0 .little in
+    let h = c .before .before .before .before .before .before .before .before .before .before .before .before .before .pre .0 .0 .little in
     omega (arith, j .1)
 
 returns-2 : tie.Need-returns-2
@@ -73,7 +97,7 @@ returns-2 c =
       omega arith,
       omega arith,
       one-row _ _ _ _ _ _
-          (bits-passed _ _ _ (c .before .before .before .before .before .before .before .before .before .before .before .pre .0 .0) (λ i. omega (arith, c .before .before .before .before .before .before .before .before .before .before .shared-slice-known .given i)) _ _ (omega arith) (omega arith) _ _ (c .before .before .before .before .before .before .before .before .if1 .taken) (j .0) (omega (arith, j .2)) (j .1) (c .bits-length .ensures)),
+          (bits-passed _ _ _ (c .before .before .before .before .before .before .before .before .before .before .before .before .before .pre .0 .0) (λ i. omega (arith, c .before .before .before .before .before .before .before .before .before .before .before .before .shared-slice-known .given i)) _ _ (omega arith) (omega arith) _ _ (c .before .before .before .before .before .before .before .before .before .before .if1 .taken) (j .0) (omega (arith, j .2)) (j .1) (c .bits-length .ensures)),
     )
 
 mul-plain-ok : tie.Need-mul-plain-ok
@@ -103,15 +127,14 @@ shared-slice-read-plain-ok-2 c = search needs
 plain-ok-requires : tie.Need-plain-ok-requires
 plain-ok-requires c κs = search needs
 
-add-t35 : tie.Need-add-t35
-add-t35 c = search needs
+add-t46 : tie.Need-add-t46
+add-t46 c = search needs
 
 returns-3 : tie.Need-returns-3
 returns-3 c = (
   omega arith,
   omega arith,
-  one-row _ _ _ _ _ _
-      (plain-passed _ _ _ (c .before .before .before .before .before .before .before .pre .0 .0) (λ i. omega (arith, c .before .before .before .before .before .before .shared-slice-known .given i)) _ _ (omega arith) (omega arith) (c .before .before .before .before .before .before .before .pre .0 .2) (c .before .before .before .before .if1 .left) (sym (c .before .plain-ok .ensures) ∙ c .if2 .taken)),
+  one-row _ _ _ _ _ _ (plain-passed _ _ _ (c .before .before .before .before .before .before .before .pre .0 .0) (λ i. omega (arith, c .before .before .before .before .before .before .shared-slice-known .given i)) _ _ (omega arith) (omega arith) (c .before .before .before .before .before .before .before .pre .0 .1) (c .before .before .before .before .before .before .before .pre .0 .2) (c .before .before .before .before .if1 .left) (sym (c .before .plain-ok .ensures) ∙ c .if2 .taken)),
 )
 
 returns-4 : tie.Need-returns-4
@@ -128,6 +151,14 @@ survey-leaf-spec =
     shared-slice-read-kind
     shared-slice-read-rows
     shared-slice-read-words
+    mul-bits-row
+    add-bits-row
+    mul-bits-row-2
+    shared-slice-read-bits-row
+    mul-bits-row-3
+    add-bits-row-2
+    mul-bits-row-4
+    shared-slice-read-bits-row-2
     bits-row-requires
     enum-told
     returns
@@ -137,8 +168,8 @@ survey-leaf-spec =
     mul-bits-length-2
     shared-slice-read-bits-length
     bits-length-requires
-    add-t26
-    add-t27
+    add-t37
+    add-t38
     returns-2
     mul-plain-ok
     add-plain-ok
@@ -149,6 +180,6 @@ survey-leaf-spec =
     mul-plain-ok-4
     shared-slice-read-plain-ok-2
     plain-ok-requires
-    add-t35
+    add-t46
     returns-3
     returns-4)

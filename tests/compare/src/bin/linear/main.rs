@@ -9,12 +9,15 @@ mod hostile_tables;
 #[allow(dead_code)]
 #[path = "../../../tests/all/hostile_messages.rs"]
 mod hostile_messages;
+#[path = "../../../tests/all/hostile_strings.rs"]
+mod hostile_strings;
 #[allow(dead_code)]
 #[path = "../../../tests/all/objects.rs"]
 mod objects;
 #[allow(dead_code)]
 #[path = "../../../../../second/tests/all/plain/mod.rs"]
 mod plain;
+#[allow(dead_code)]
 #[path = "../../../tests/all/tables.rs"]
 mod tables;
 

@@ -119,13 +119,40 @@ fn letter() -> Vec<u8> {
     sized(0xC3, &parts.concat())
 }
 
+/// A sheet with a note for the cutter.
+fn sheet_with_note() -> Vec<u8> {
+    let note = sized(
+        0xC5,
+        b"LEFT SHOULDER DROPS; SECOND FITTING ON FRIDAY, ASK FOR THE LINING",
+    );
+    let mut sheet = measure_sheet();
+    sheet.extend(note);
+    sheet[1] = (sheet.len() - 2) as u8;
+    sheet
+}
+
+/// Characters with padding among them, in stretches of every length up to nine.
+fn padded_characters(count: usize) -> Vec<u8> {
+    let stretch = |at: usize| [bytes(1 + at % 9, 0, 0x7F), vec![0xFF; 1 + at % 3]].concat();
+    (0..count).flat_map(stretch).collect()
+}
+
+/// A string and a bit string by turns.
+fn strings_and_bits() -> Vec<u8> {
+    let string = sized(0xC5, b"SEE THE SKETCH");
+    [string, bit_string(18)].concat()
+}
+
 fn load(name: &'static str, message: Vec<u8>) -> Load {
     Load { name, message }
 }
 
 pub fn loads() -> Vec<Load> {
-    let pattern = sized(0xC4, &[0xE2, 0x15, 0x55, 0xF1, 0x03, 0xF1, 0x01, 0x80]);
-    let string = bytes(16_380, 0, 0x7F);
+    let all = [integers(), strings(), structures(), sheets()];
+    all.into_iter().flatten().collect()
+}
+
+fn integers() -> Vec<Load> {
     vec![
         load(
             "16,383 small INTs in a STRUC",
@@ -136,13 +163,39 @@ pub fn loads() -> Vec<Load> {
             "INTs of 1, 2, 3 and 9 bytes",
             integers_of_four_sizes().repeat(4_090),
         ),
+    ]
+}
+
+fn strings() -> Vec<Load> {
+    let string = bytes(16_380, 0, 0x7F);
+    let note = bytes(60_000, 0, 0x7F);
+    let one = sized(0xC4, &[0xE3, 0x00, 0xEA, 0x60, 0x41]);
+    let seven = sized(0xC4, b"\xE2\x21\x7BFITTING");
+    let nine = sized(0xC4, b"\xE2\x17\x0C\xC6\x09SHOULDERS");
+    vec![
         load("a string of 16,380 as USTRUC", sized(0xC5, &string)),
         load("the same as STRING", sized(0xC6, &string)),
         load("strings of eight", sized(0xC5, b"MESSAGES").repeat(1_820)),
+        load("a note of 60,000 as USTRUC", sized(0xC5, &note)),
+        load("that note as STRING", sized(0xC6, &note)),
+        load("60,000 characters from one", sized(0xC2, &one)),
+        load("59,997 characters from seven", sized(0xC2, &seven)),
+        load(
+            "characters with padding",
+            sized(0xC2, &padded_characters(9_000)),
+        ),
+        load("5,900 copies of a string of nine", sized(0xC2, &nine)),
+        load("strings and bit strings", strings_and_bits().repeat(1_500)),
         load(
             "USTRUCs of strings and STRUCs",
             notes_with_figures().repeat(862),
         ),
+    ]
+}
+
+fn structures() -> Vec<Load> {
+    let pattern = sized(0xC4, &[0xE2, 0x15, 0x55, 0xF1, 0x03, 0xF1, 0x01, 0x80]);
+    vec![
         load("nests of sixteen", nest_of_sixteen().repeat(963)),
         load("a bit string of 60 KB", bit_string(60_000)),
         load(
@@ -153,6 +206,13 @@ pub fn loads() -> Vec<Load> {
         load("64 KB of padding", vec![0xFF; 65_536]),
         load("atomic classes by turns", each_atomic().repeat(2_340)),
         load("a mixed message", letter().repeat(160)),
+    ]
+}
+
+fn sheets() -> Vec<Load> {
+    vec![
+        load("a sheet with a note", sheet_with_note()),
+        load("six hundred of them", sheet_with_note().repeat(600)),
         load("one measure sheet", measure_sheet()),
         load("seven hundred of them", measure_sheet().repeat(700)),
         load("the same, the last cut short", sheets_cut_short()),

@@ -1,0 +1,150 @@
+-- A string's codes in the data: from bytes whose high bit is ignored, and from a run. Assumes nothing.
+use Prim.Native.Nat.{ℕ, suc, _+_, _-_, _*_, _/_, _≤_}
+use native.Mathlib.Omega.{arith}
+use mathlib.Core.Path.{_≡_, refl, sym, ap, ap₂, _∙_, subst}
+use mathlib.Core.Bool.{Bool, true, false}
+use mathlib.Core.List.{List, [], _∷_, _++_}
+use lib.ListN.{length, take, drop, length-append}
+use lib.Seq.{length-take-le}
+use Rattle.format.specs.Choice.{pick}
+use Rattle.format.specs.Bits.{wordsFor}
+use Rattle.format.specs.Items.{Items, allOf, kinds, isString}
+use Rattle.format.specs.Tables.{count, codes, textWords}
+use Rattle.format.specs.Objects.{characters}
+use Rattle.format.specs.Messages.{Outcome, says, reads}
+use Rattle.format.specs.Answers.{over}
+use Rattle.format.proofs.TableLaws.{text-length}
+use Rattle.wire.specs.Ranges.{Between}
+use Rattle.fill.specs.Texts.{lows, Spelt, OnlyChars, textOf, TextFits, TextPut, StringFits, StringPut, Bytewise, TextIn, TextRoom, TextLaid, Tried, TextTried}
+use Rattle.fill.proofs.Over.{back, part-length}
+use Rattle.fill.proofs.Regions.{front-over, back-over, front-kept, back-put}
+use Rattle.fill.proofs.Letters.{spelt-front}
+use Rattle.fill.proofs.ShortLaws.{chars-said}
+
+pub true-false : (true ≡ false) → ⊥
+true-false e = let z : _≡_ {A = ℕ} 0 1 = cc in omega arith
+
+chars-count : (c : List ℕ) → count (characters c) ≡ length c
+unfolding count characters
+chars-count [] = refl
+chars-count (b ∷ c) = ap suc (chars-count c)
+
+pub chars-string : (c : List ℕ) → isString (characters c) ≡ true
+unfolding isString allOf kinds characters
+chars-string [] = refl
+chars-string (b ∷ c) = chars-string c
+
+chars-few : (c : List ℕ) (len : ℕ) → length (textWords (characters c)) ≤ len → length c ≤ 8 * len
+unfolding wordsFor
+chars-few c len h = let e = text-length (characters c) in let n = chars-count c in omega arith
+
+-- ---- what contents say
+same-says : (o : Outcome) (xs ys : Items) → o ≡ says xs → o ≡ says ys → ys ≡ xs
+same-says o xs ys e f = let q : says ys ≡ says xs = sym f ∙ e in cc
+
+module _ (raw : Bool) (d : ℕ) (c : List ℕ) where
+  raw-said : raw ≡ true → textOf raw d c ≡ says (characters c)
+  unfolding textOf pick
+  raw-said e = rw e refl
+
+  run-said : raw ≡ false → textOf raw d c ≡ reads d c
+  unfolding textOf pick
+  run-said e = rw e refl
+
+  pub raw-text : raw ≡ true → TextIn raw d c true
+  raw-text e xs s = sym (ap isString (same-says _ (characters c) xs (raw-said e) s) ∙ chars-string c)
+
+  pub run-text : raw ≡ false → (r : Bool) → OnlyChars d c r → TextIn raw d c r
+  run-text e r g xs s = g xs (sym (run-said e) ∙ s)
+
+-- where they are taken byte by byte
+pub bytewise-raw : (raw : Bool) (c : List ℕ) → raw ≡ true → Bytewise raw c true
+bytewise-raw raw c e d = rw e refl
+
+pub bytewise-plain : (raw : Bool) (c : List ℕ) → raw ≡ false → (r : Bool) → (r ≡ true → Between 0 0x7f 0 (length c) c) → Bytewise raw c r
+unfolding textOf pick
+bytewise-plain raw c e true w d = rw e (sym (chars-said d c (w refl)))
+bytewise-plain raw c e false w d = rw e refl
+
+-- ---- the codes
+module _ (raw : Bool) (d : ℕ) (c t : List ℕ) (f : StringFits raw d c (length t)) where
+  said-as : (xs : Items) → textOf raw d c ≡ says xs → f .items ≡ xs
+  said-as xs e = let q : says (f .items) ≡ says xs = sym (f .said) ∙ e in cc
+
+  -- each byte is a character
+  pub raw-room : raw ≡ true → 0 + length c ≤ 8 * length t
+  raw-room e = let k = chars-few c (length t) (rw (said-as (characters c) (raw-said raw d c e)) at (f .room)) in omega arith
+
+  pub raw-put : raw ≡ true → (u : List ℕ) → Spelt 0 (lows c) t u → StringPut raw d c t u (length c)
+  unfolding textWords
+  raw-put e u p =
+      record { items = characters c; said = raw-said raw d c e; chars = chars-string c; count-is = sym (chars-count c); table-is = spelt-front (lows c) t u p }
+
+  -- a run
+  pub run-room : raw ≡ false → TextFits d c 0 (length t)
+  unfolding wordsFor
+  run-room e =
+      let l = text-length (f .items) in
+      let r = f .room in
+      let s = f .few in
+      record { items = f .items; said = sym (run-said raw d c e) ∙ f .said; chars = f .chars; room = omega arith; few = omega arith }
+
+  pub run-put : raw ≡ false → (u : List ℕ) (r : ℕ) → TextPut d c 0 t u r → StringPut raw d c t u r
+  unfolding textWords
+  run-put e u r p =
+      let k = p .upto in
+      record { items = p .items; said = run-said raw d c e ∙ p .said; chars = p .chars; count-is = omega arith; table-is = spelt-front (codes (p .items)) t u (p .spelt) }
+
+-- ---- an object tried as a string
+pub no-string : (o : Outcome) (isOne : Items → Bool) (base gap : ℕ) (t : List ℕ) → ((xs : Items) → o ≡ says xs → isOne xs ≡ false) → TextTried o isOne base gap t t 0
+no-string o isOne base gap t n xs e =
+    record { laid = λ y. absurd (true-false (sym y ∙ n xs e)); none = λ z. (refl, refl) }
+
+-- its row, and its words
+module _ (raw each : Bool) (d : ℕ) (c : List ℕ) (base gap : ℕ) (t : List ℕ) (b : Bytewise raw c each) (f : TextRoom (textOf raw d c) isString base gap (length t)) (is : TextIn each d c true) where
+  said : textOf each d c ≡ says (f .items)
+  said = b d ∙ f .said
+
+  room : (3 ≤ gap) × (gap + (base + length (textWords (f .items))) ≤ length t) × (base + length (textWords (f .items)) ≤ 16384)
+  room = f .room (sym (is (f .items) said))
+
+  pub words-at : gap + base ≤ length t
+  words-at = let r = room in omega arith
+
+  pub words-fit : StringFits each d c (length (take (length t - (gap + base)) (drop (gap + base) t)))
+  words-fit =
+      let r = room in
+      record { items = f .items; said = said; chars = sym (is (f .items) said); room = rw (part-length (gap + base) t) (omega arith); few = omega arith }
+
+  module _ (n : ℕ) (ys : List ℕ) (g : StringPut each d c (take (length t - (gap + base)) (drop (gap + base) t)) ys n) where
+    pub count-few : n + 7 ≤ 131079
+    unfolding wordsFor
+    count-few =
+        let e : count (g .items) ≡ count (f .items) = ap count (same-says _ (f .items) (g .items) said (g .said)) in
+        let l = text-length (f .items) in
+        let r = room in
+        omega (arith, g .count-is)
+
+    pub row-room : length ys ≡ length t - (gap + base) → 3 ≤ length (take (gap + base) t ++ (ys ++ drop (length t - (gap + base)) (drop (gap + base) t)))
+    row-room l =
+        let r = room in
+        rw (back (gap + base) t ys) (omega (arith, length-append (take (gap + base) t) ys, length-take-le (gap + base) t words-at))
+
+    pub string-put : (t′ : List ℕ) → t′ ≡ over (9 ∷ n ∷ base ∷ []) (take (gap + base) t ++ (ys ++ drop (length t - (gap + base)) (drop (gap + base) t)))
+        → TextTried (textOf raw d c) isString base gap t t′ ((n + 7) / 8 + 1)
+    unfolding wordsFor
+    string-put t′ q xs e =
+        subst (λ zs. Tried (isString zs) zs base gap t t′ ((n + 7) / 8 + 1)) (same-says _ xs (g .items) (b d ∙ e) (g .said))
+        (record { laid = λ y. written; none = λ z. absurd (true-false (sym (g .chars) ∙ z)) })
+      where
+        written : TextLaid (g .items) base gap t t′ ((n + 7) / 8 + 1)
+        written =
+            let r = room in
+            let l = text-length (g .items) in
+            let k = g .count-is in
+            let T : List ℕ = take (gap + base) t ++ (ys ++ drop (length t - (gap + base)) (drop (gap + base) t)) in
+            record {
+              words-are = omega arith;
+              front-is = ap (take gap) q ∙ front-over gap (9 ∷ n ∷ base ∷ []) T (r .0) ∙ ap₂ (λ m z. over (9 ∷ m ∷ base ∷ []) z) k (front-kept gap base t ys (textWords (g .items)) words-at (g .table-is));
+              back-is = ap (drop gap) q ∙ back-over gap (9 ∷ n ∷ base ∷ []) T (r .0) ∙ back-put gap base t ys (textWords (g .items)) words-at (g .table-is);
+            }

@@ -1,0 +1,155 @@
+-- `listing::rows::put_codes` meets its contract: the codes so far stand, each behind a space. Assumes nothing.
+use Prim.Native.Nat.{_+_, _-_, _*_, _≤_}
+use mathlib.Core.Path.{_≡_, refl}
+use native.Mathlib.Omega.{arith}
+use lib.ListN.{drop, getD, length-set}
+use Rattle.format.specs.Tables.{codes}
+use Rattle.writer.specs.Rows.{aAt, bAt, textAt}
+use Rattle.writer.proofs.WordLaws.{text-kept}
+use Rattle.listing.specs.Lines.{codesColumn}
+use Rattle.listing.proofs.Putting.{Part, part-start, part-end, part-room}
+use Rattle.listing.proofs.CodeLines.{codes-number, code-in, code-at, codes-end, code-room, code-put}
+use Rattle.listing.proofs.rows.put_codes.Statement.{statement}
+use Rattle.listing.proofs.rows.put_codes.Tie as tie
+
+abbrev Inv-loop : tie.InvT-loop
+Inv-loop table p out₀ at count first n₀ i₀ out n i =
+    (i ≤ count) × (first ≡ 3 * getD table 0 0 + 4 + bAt table p) × (count ≡ aAt table p)
+    × Part at (codesColumn (codes (textAt table p))) (codesColumn (drop i (codes (textAt table p)))) out₀ n out
+
+abbrev μ-loop : tie.MeasureT-loop
+μ-loop table p out₀ at count first n₀ i₀ out n i = count - i
+
+mul-count : tie.Need-mul-count Inv-loop μ-loop
+mul-count c = let r = c .before .before .pre .0 .row .within in omega arith
+
+add-count : tie.Need-add-count Inv-loop μ-loop
+add-count c = let r = c .before .before .pre .0 .row .within in omega arith
+
+mul-count-2 : tie.Need-mul-count-2 Inv-loop μ-loop
+mul-count-2 c = let r = c .before .before .pre .0 .row .within in omega arith
+
+shared-slice-read-count : tie.Need-shared-slice-read-count Inv-loop μ-loop
+shared-slice-read-count c = let r = c .before .before .before .pre .0 .row .within in omega arith
+
+shared-slice-read-first : tie.Need-shared-slice-read-first Inv-loop μ-loop
+shared-slice-read-first c = let r = c .before .before .before .before .pre .0 .row .within in omega arith
+
+mul-first : tie.Need-mul-first Inv-loop μ-loop
+mul-first c = let r = c .before .before .before .before .pre .0 .row .stored in omega arith
+
+add-first : tie.Need-add-first Inv-loop μ-loop
+add-first c = let r = c .before .before .before .before .pre .0 .row .stored in omega arith
+
+mul-first-2 : tie.Need-mul-first-2 Inv-loop μ-loop
+mul-first-2 c = let r = c .before .before .before .before .pre .0 .row .within in omega arith
+
+add-first-2 : tie.Need-add-first-2 Inv-loop μ-loop
+add-first-2 c = let r = c .before .before .before .before .pre .0 .row .within in omega arith
+
+mul-first-3 : tie.Need-mul-first-3 Inv-loop μ-loop
+mul-first-3 c = let r = c .before .before .before .before .pre .0 .row .within in omega arith
+
+shared-slice-read-first-2 : tie.Need-shared-slice-read-first-2 Inv-loop μ-loop
+shared-slice-read-first-2 c = let r = c .before .before .before .before .before .pre .0 .row .within in omega arith
+
+add-first-3 : tie.Need-add-first-3 Inv-loop μ-loop
+add-first-3 c = let r = c .before .before .before .before .before .pre .0 .row in let s = r .stored in let b = r .b in omega arith
+
+loop-holds : tie.Need-loop-holds Inv-loop μ-loop
+loop-holds c =
+    let a = c .before .before .before .before .before .args in
+    (omega arith, refl, refl, part-start (a .at) (codesColumn (codes (textAt (a .table .now) (a .p)))) (a .out .now) (c .before .before .before .before .before .pre .1))
+
+add-word : tie.Need-add-word Inv-loop μ-loop
+add-word c = let h = code-in _ _ (c .before .before .before .before .before .before .before .pre .0) (c .before .loop .i) (omega arith) in omega arith
+
+mul-word : tie.Need-mul-word Inv-loop μ-loop
+mul-word c = let h = code-in _ _ (c .before .before .before .before .before .before .before .pre .0) (c .before .loop .i) (omega arith) in omega arith
+
+shared-slice-read-word : tie.Need-shared-slice-read-word Inv-loop μ-loop
+shared-slice-read-word c = let h = code-in _ _ (c .before .before .before .before .before .before .before .before .pre .0) (c .before .before .loop .i) (omega arith) in omega arith
+
+slice-write-out : tie.Need-slice-write-out Inv-loop μ-loop
+slice-write-out c =
+    let s = c .before .before .loop in
+    let n = codes-number _ _ (c .before .before .before .before .before .before .before .before .pre .0) in
+    let k = code-room _ (s .i) (omega arith) (c .before .before .before .before .before .before .before .before .pre .1) (s .inv .3) in
+    omega arith
+
+add-put-decimal : tie.Need-add-put-decimal Inv-loop μ-loop
+add-put-decimal c =
+    let s = c .before .before .before .loop in
+    let n = codes-number _ _ (c .before .before .before .before .before .before .before .before .before .pre .0) in
+    let k = code-room _ (s .i) (omega arith) (c .before .before .before .before .before .before .before .before .before .pre .1) (s .inv .3) in
+    omega arith
+
+code-of-requires : tie.Need-code-of-requires Inv-loop μ-loop
+code-of-requires c κs = omega arith
+
+put-decimal-requires : tie.Need-put-decimal-requires Inv-loop μ-loop
+put-decimal-requires c κs =
+    let a = c .before .before .before .before .before .before .before .before .before .before .args in
+    let s = c .before .before .before .before .loop in
+    let n = codes-number _ _ (c .before .before .before .before .before .before .before .before .before .before .pre .0) in
+    let k = code-room _ (s .i) (omega arith) (c .before .before .before .before .before .before .before .before .before .before .pre .1) (s .inv .3) in
+    rw (c .code-of .ensures, s .inv .1, code-at (a .table .now) (a .p) (c .before .before .before .before .before .before .before .before .before .before .pre .0) (s .i) (omega arith)) (simp length-set (omega arith))
+
+add-i : tie.Need-add-i Inv-loop μ-loop
+add-i c = let k = text-kept _ _ (c .before .before .before .before .before .before .before .before .before .before .before .before .before .pre .0) .0 .small in omega arith
+
+loop-less : tie.Need-loop-less Inv-loop μ-loop
+loop-less c = omega arith
+
+loop-again : tie.Need-loop-again Inv-loop μ-loop
+loop-again c =
+    let a = c .before .before .before .before .before .before .before .before .before .before .before .before .before .args in
+    let s = c .before .before .before .before .before .before .before .loop in
+    let n = codes-number _ _ (c .before .before .before .before .before .before .before .before .before .before .before .before .before .pre .0) in (
+      omega arith,
+      s .inv .1,
+      s .inv .2,
+      code-put (codes (textAt (a .table .now) (a .p))) (s .i) (omega arith) (c .before .before .before .before .before .before .before .before .before .before .before .before .before .pre .1) (s .inv .3)
+          (rw (c .before .before .before .code-of .ensures, s .inv .1, code-at (a .table .now) (a .p) (c .before .before .before .before .before .before .before .before .before .before .before .before .before .pre .0) (s .i) (omega arith)) at (c .before .before .put-decimal .ensures)),
+    )
+
+same-length : tie.Need-same-length Inv-loop μ-loop
+same-length c = part-room (c .before .loop .inv .3) .1
+
+returns : tie.Need-returns Inv-loop μ-loop
+returns c =
+    let s = c .before .loop in
+    let n = codes-number _ _ (c .before .before .before .before .before .before .before .pre .0) in
+    part-end (s .inv .3) (codes-end _ (s .i) (omega arith))
+
+pub put-codes-spec : {M : Type 1} → statement M
+put-codes-spec =
+    tie.close
+    (tie.spec
+    Inv-loop
+    μ-loop
+    mul-count
+    add-count
+    mul-count-2
+    shared-slice-read-count
+    shared-slice-read-first
+    mul-first
+    add-first
+    mul-first-2
+    add-first-2
+    mul-first-3
+    shared-slice-read-first-2
+    add-first-3
+    loop-holds
+    add-word
+    mul-word
+    shared-slice-read-word
+    slice-write-out
+    add-put-decimal
+    code-of-requires
+    put-decimal-requires
+    add-i
+    loop-less
+    loop-again
+    same-length
+    returns)
