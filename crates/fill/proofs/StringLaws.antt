@@ -1,5 +1,5 @@
 -- Whether a run says only CHARs, told object by object. Assumes nothing.
-use Prim.Native.Nat.{ℕ, zero, suc, _+_, _-_, _≤_, _<_, zero-le}
+use Prim.Native.Nat.{ℕ, zero, suc, _+_, _-_, _/_, _≤_, _<_, zero-le}
 use native.Mathlib.Omega.{arith}
 use native.Mathlib.Nat.{add-zero}
 use mathlib.Core.Path.{_≡_, refl, sym, ap, _∙_, subst}
@@ -20,7 +20,8 @@ use Rattle.format.specs.declared.fault.Fault.{Fault}
 use Rattle.format.specs.Refusals.{bad-bits, bad-repeat}
 use Rattle.format.specs.Objects as O
 use Rattle.format.specs.Messages.{Outcome, refused, says, Object, bad, got, closing, around, object, reads}
-use Rattle.format.proofs.Choices.{byEq, byPick, eq-false}
+use Rattle.format.proofs.Choices.{byEq, byPick, eq-false, true-eq}
+use borrow.Author.Tests.{eqb-false}
 use Rattle.format.proofs.Counts.{kinds-join, times-suc, times-zero}
 use Rattle.format.proofs.HeadCases.{by-fixed, by-container, by-sized, by-counted}
 use Rattle.format.proofs.Steps.{objectAt}
@@ -287,6 +288,19 @@ yes-not false e = refl
 pub no-not : (r : Bool) → not r ≡ false → r ≡ true
 no-not true e = refl
 no-not false e = sym e
+
+-- ---- as the code tells a type-byte
+pub char-is : (b : ℕ) (r : Bool) → r ≡ eqb (b / 128) 0 → r ≡ true → b < 0x80
+char-is b r e y = let k : b / 128 ≡ 0 = true-eq (b / 128) 0 (sym e ∙ y) in omega arith
+
+pub char-not : (b : ℕ) (r : Bool) → r ≡ eqb (b / 128) 0 → r ≡ false → 0x80 ≤ b
+char-not b r e n = let k : b / 128 ≢ 0 = eqb-false (b / 128) 0 (sym e ∙ n) in omega arith
+
+pub byte-is : (b k : ℕ) (r : Bool) → r ≡ eqb b k → r ≡ true → b ≡ k
+byte-is b k r e y = true-eq b k (sym e ∙ y)
+
+pub byte-not : (b k : ℕ) (r : Bool) → r ≡ eqb b k → r ≡ false → b ≢ k
+byte-not b k r e n = eqb-false b k (sym e ∙ n)
 
 -- ---- as the code lends a repeat's pattern
 pub pattern-part : (s : List ℕ) (i a n : ℕ) → take (i + 1 + a + n - (i + 1 + a)) (drop (i + 1 + a) s) ≡ take (a + n - a) (drop a (take (length s - (i + 1)) (drop (i + 1) s)))

@@ -10,6 +10,9 @@ use super::copies::copies_of;
 use super::plain::put_row;
 use wire::head::Head;
 use wire::head::head_of;
+use wire::letters::is_char;
+use wire::letters::is_padding;
+use wire::letters::is_repeat;
 use wire::padding::padding_end;
 use wire::span::all_low;
 use wire::span::chars_end;
@@ -18,13 +21,13 @@ use wire::span::chars_end;
 pub fn spells(b: u8) -> bool
     ensures { λ r. ⌜ r ≡ spells b ⌝ }
 {
-    if b < 0x80 {
+    if is_char(b) {
         return true;
     }
-    if b == 0xff {
+    if is_padding(b) {
         return true;
     }
-    b == 0xc4
+    is_repeat(b)
 }
 
 // Whether a run of objects says only CHARs. It looks into repeats, never into other containers, and ends at the first element
@@ -37,15 +40,15 @@ fn only_chars(depth: usize, s: &[u8]) -> bool
     while i < s.len() {
         let b = s[i];
         let behind = i + 1;
-        if b < 0x80 {
+        if is_char(b) {
             i = chars_end(s, behind);
             continue;
         }
-        if b == 0xff {
+        if is_padding(b) {
             i = padding_end(s, behind);
             continue;
         }
-        if b != 0xc4 {
+        if !is_repeat(b) {
             return false;
         }
         let h = head_of(depth, b, &s[behind..]);
@@ -77,14 +80,14 @@ fn put_chars(depth: usize, s: &[u8], n: usize, table: &mut [u64]) -> usize
     while i < s.len() {
         let b = s[i];
         let behind = i + 1;
-        if b < 0x80 {
+        if is_char(b) {
             let end = chars_end(s, behind);
             put_low(&s[i..end], to, table);
             to += end - i;
             i = end;
             continue;
         }
-        if b == 0xff {
+        if is_padding(b) {
             i = padding_end(s, behind);
             continue;
         }

@@ -1,6 +1,6 @@
 -- The head of an SBITSTR that is whole and has its marker. Assumes nothing.
 use Prim.Native.Nat.{ℕ, _+_, _-_, _*_, _%_, _^_, _≤_}
-use mathlib.Core.Path.{_≡_, refl, subst}
+use mathlib.Core.Path.{_≡_, refl, sym, subst}
 use mathlib.Core.Logic.{_≢_}
 use mathlib.Core.List.{List}
 use native.Mathlib.Omega.{arith}
@@ -15,12 +15,12 @@ use Rattle.wire.specs.declared.head.Head.the-variants.{Short}
 use Rattle.wire.specs.Heads.{HeadIs, BitsAt, markedWord}
 use Rattle.wire.proofs.HeadLaws.{sbitstr-short, by-class}
 
-marked-class : (b : ℕ) → 0xf0 ≤ b → b ≤ 0xf7 → C.Sbitstr ≡ classOf b
+pub sbitstr-class : (b : ℕ) → 0xf0 ≤ b → b ≤ 0xf7 → classOf b ≡ C.Sbitstr
 unfolding classOf
-marked-class b lo hi =
+sbitstr-class b lo hi =
     let e : 0xf0 + (b - 0xf0) ≡ b = omega arith in
-    let c = each (λ k. C.Sbitstr ≡ classOf (0xf0 + k)) 8 (refl, (refl, (refl, (refl, (refl, (refl, (refl, (refl, tt)))))))) (b - 0xf0) (omega arith) in
-    subst (λ x. C.Sbitstr ≡ classOf x) e c
+    let c = each (λ k. classOf (0xf0 + k) ≡ C.Sbitstr) 8 (refl, (refl, (refl, (refl, (refl, (refl, (refl, (refl, tt)))))))) (b - 0xf0) (omega arith) in
+    subst (λ x. classOf x ≡ C.Sbitstr) e c
 
 -- a number moved up by a whole word leaves nothing in it
 pushed-out : (v n : ℕ) → n ≡ 0 → v * 2 ^ (64 - n) % 2 ^ 64 ≡ 0
@@ -31,6 +31,6 @@ unfolding markedWord
 bits-at b n s hb lo hi hl z en =
     let h : (d : ℕ) → HeadIs s (Short n (val (take (O.following b) s) * 2 ^ (64 - n) % 2 ^ 64) (O.following b)) (O.headOf d b s)
     = λ d.
-    by-class d b s (Short n (val (take (O.following b) s) * 2 ^ (64 - n) % 2 ^ 64) (O.following b)) C.Sbitstr (marked-class b lo hi)
+    by-class d b s (Short n (val (take (O.following b) s) * 2 ^ (64 - n) % 2 ^ 64) (O.following b)) C.Sbitstr (sym (sbitstr-class b lo hi))
     (sbitstr-short d b (O.following b) n (val (take (O.following b) s)) _ s hb refl hl z en refl (pushed-out (val (take (O.following b) s)) n) (λ p. refl)) in
     record { head = h; within = hl; few = h 0 .2 .few }
