@@ -92,7 +92,8 @@ fn edt_rows(table: &[u64], from: usize, to: usize) -> bool
     false
 }
 
-// Whether the row `p`, whose elements stand up to `to`, has the kind of a STRUC and is no string, or that of an EDT and has the elements of one.
+// Whether the row `p`, whose elements stand up to `to`, has the kind of a STRUC and is no string, or that of an EDT and has the
+// elements of one.
 pub fn kind_ok(table: &[u64], p: usize, to: usize) -> bool
     requires { ⌜ Room (now table) (p + 1) to ⌝ }
     ensures { λ r. ⌜ r ≡ kindOk (now (table .entry)) p to ⌝ }
