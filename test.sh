@@ -64,6 +64,7 @@ parts() {
     part listings counts 'listings of sheetlist beside those of the second program' bash tests/listings.sh
     part list counts 'list.sh' bash tests/list.sh
     part pages counts 'pages and words about the numbers, from one source' python3 docs/pages.py --check
+    part tour once "README's tour, drawn from crates.txt" python3 docs/tour.py --check
 }
 
 usage() {

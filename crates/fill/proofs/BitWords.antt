@@ -18,7 +18,7 @@ use Rattle.format.proofs.BitLaws.{bits-length, spread-length, packed-length, pa
 use Rattle.format.proofs.Marker.{num-lt, num-append, num-spread, adjusted-num}
 use Rattle.wire.specs.WordsAt.{wordAt}
 use Rattle.wire.proofs.WordLaws.{high-bytes}
-use Rattle.fill.proofs.Over.{grown, set-word}
+use Rattle.format.proofs.Over.{over-next, set-at}
 
 -- ---- bits of some of the bytes
 pub spread-drop : (k : ℕ) (s : List ℕ) → drop (8 * k) (spread 8 s) ≡ spread 8 (drop k s)
@@ -104,5 +104,5 @@ pub word-turn : (c : List ℕ) (n : ℕ) (t₀ t : List ℕ) (j v : ℕ) → j <
     → set t j v ≡ over (packed 64 (j + 1) (take n (spread 8 c))) t₀
 word-turn c n t₀ t j v h e w =
     let bs : List Bool = take n (spread 8 c) in
-    set-word j t v h ∙ grown (packed 64 j bs) (v ∷ []) t₀ t j e (sym (packed-length 64 j bs))
+    set-at j v t h ∙ over-next (packed 64 j bs) (v ∷ []) t₀ t j e (sym (packed-length 64 j bs))
     ∙ ap (λ r. over r t₀) (ap (λ x. packed 64 j bs ++ (x ∷ [])) (w ∙ sym (next-word c n j)) ∙ sym (packed-more j bs))

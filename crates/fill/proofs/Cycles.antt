@@ -1,7 +1,7 @@
 -- Codes again and again as whole words: eight copies of m codes are m words, which stand there again and again. Assumes nothing.
 use Prim.Native.Nat.{ℕ, zero, suc, _+_, _-_, _*_, _/_, _%_, _≤_, _<_}
 use native.Mathlib.Omega.{arith}
-use native.Mathlib.Nat.{zero-mul, suc-mul, mul-assoc, mul-le-mul-right, mod-lt, mod-eq-of-lt, div-add-mod', mul-add-mod-self-right}
+use native.Mathlib.Nat.{zero-mul, suc-mul, mul-le-mul-right, mod-lt, mod-eq-of-lt, div-add-mod', mul-add-mod-self-right}
 use mathlib.Core.Path.{_≡_, sym, ap, ap₂, _∙_}
 use mathlib.Core.List.{List, [], _++_, append-assoc, append-nil}
 use lib.ListN.{length, take, drop, getD, length-append, List·getD-append}
@@ -12,7 +12,8 @@ use Rattle.format.proofs.Choices.{split}
 use Rattle.format.proofs.Parts.{rest-part, drop-take}
 use Rattle.fill.specs.Copies.{again, cycled}
 use Rattle.fill.specs.Texts.{wordOf, SpeltFrom, SpeltAgain}
-use Rattle.fill.proofs.Over.{over-over, over-part, grown, lent, part-length}
+use Rattle.format.specs.Lent.{overAt}
+use Rattle.format.proofs.Over.{over-over, over-part, over-next, at-as-front, lent, part-length}
 use Rattle.fill.proofs.AgainLaws.{at-least, again-length, again-add}
 use Rattle.fill.proofs.Letters.{letters-long, once, spelt-again}
 use Rattle.fill.proofs.Eights.{eight-whole, periodic}
@@ -61,7 +62,7 @@ module _ (n m : ℕ) (p : 0 < m) where
     cycled-at i l = let r = rest-few in at-cycle (n / m) (n % m) i (omega arith) (omega (arith, parts))
 
     -- as the code copies them: whole copies, and a part of one
-    pub cycled-put : (u v : List ℕ) → m ≤ n → u ≡ over (again (n / m) (take m t)) t → v ≡ over (take (n / m * m) u ++ take (n % m) u) u → v ≡ over (cycled n m t) t
+    pub cycled-put : (u v : List ℕ) → m ≤ n → u ≡ over (again (n / m) (take m t)) t → v ≡ overAt (n / m * m) (take (n % m) u) u → v ≡ over (cycled n m t) t
     cycled-put u v g e f =
         let q : ℕ = n / m in
         let P : List ℕ = take m t in
@@ -70,7 +71,7 @@ module _ (n m : ℕ) (p : 0 < m) where
         let a = at-least q m (some-whole g) in
         let w : take m u ≡ P = ap (take m) e ∙ over-part m (again q P) t (omega arith) ∙ once q P m (some-whole g) first-long in
         let x : take (n % m) u ≡ take (n % m) t = sym (take-take (n % m) m u (omega arith)) ∙ ap (take (n % m)) w ∙ take-take (n % m) m t (omega arith) in
-        f ∙ grown (again q P) (take (n % m) u) t u (q * m) e (sym lq) ∙ ap (λ z. over (again q P ++ z) t) x
+        f ∙ over-next (again q P) (take (n % m) u) t u (q * m) e (sym lq) ∙ ap (λ z. over (again q P ++ z) t) x
 
 -- ---- words of codes
 -- eight codes that are there before j
@@ -120,7 +121,8 @@ module _ (n m k : ℕ) (cs ds : List ℕ) (e : length cs ≡ n) (g : length ds �
   sixteen =
       let x : 16 + (k - 16) ≡ k = omega arith in
       let y : n + 16 * m - n ≡ 16 * m = omega arith in
-      ap (λ z. cs ++ z) (sym (ap₂ (λ i j. take i (again j ds)) y (sym x) ∙ ap (take (16 * m)) (again-add 16 (k - 16) ds) ∙ take-at (again 16 ds) (again (k - 16) ds) (16 * m) (again-length ds m g 16)))
+      ap (λ z. cs ++ z)
+      (sym (ap₂ (λ i j. take i (again j ds)) y (sym x) ∙ ap (take (16 * m)) (again-add 16 (k - 16) ds) ∙ take-at (again 16 ds) (again (k - 16) ds) (16 * m) (again-length ds m g 16)))
       ∙ upto (n + 16 * m) (omega arith)
 
   -- words are the same where they are m apart
@@ -129,7 +131,6 @@ module _ (n m k : ℕ) (cs ds : List ℕ) (e : length cs ≡ n) (g : length ds �
       let q : ℕ = 8 * (b / m) in
       let i : ℕ = 8 * a - n + 8 * (b % m) in
       let d : b / m * m + b % m ≡ b = div-add-mod' b m in
-      let c : q * m ≡ 8 * (b / m * m) = mul-assoc 8 (b / m) m in
       let x : 8 * (a + b) ≡ length cs + (q * m + i) = omega arith in
       let y : 8 * (a + b % m) ≡ length cs + i = omega arith in
       ap wordOf
@@ -158,7 +159,6 @@ module _ (n m k : ℕ) (cs ds : List ℕ) (e : length cs ≡ n) (g : length ds �
 
     word-is : (i : ℕ) → i < E → getD (take a t ++ M) i 0 ≡ wordOf (take 8 (drop (8 * i) L))
     word-is i l =
-        let y = many in
         split i a
         (λ f. List·getD-append (take a t) M 0 i (omega (arith, front-long)) ∙ getD-take a t i 0 f ∙ there i (omega arith))
         (λ f.
@@ -167,7 +167,8 @@ module _ (n m k : ℕ) (cs ds : List ℕ) (e : length cs ≡ n) (g : length ds �
         let z : a + b ≡ i = omega arith in
         let r = mod-lt b p in
         ap (λ z. getD (take a t ++ M) z 0) x ∙ getD-append-add (take a t) M b 0 ∙ cycled-at (E - a) m p part part-long b (omega arith)
-        ∙ ap (λ z. getD z (b % m) 0) (rest-part t a) ∙ getD-drop a t (b % m) 0 ∙ there (a + b % m) (omega arith) ∙ sym (same-word b (omega arith)) ∙ ap (λ z. wordOf (take 8 (drop (8 * z) L))) z)
+        ∙ ap (λ z. getD z (b % m) 0) (rest-part t a) ∙ getD-drop a t (b % m) 0 ∙ there (a + b % m) (omega arith)
+        ∙ sym (same-word b (omega arith)) ∙ ap (λ z. wordOf (take 8 (drop (8 * z) L))) z)
 
     pub whole-words : take a t ++ (ys ++ drop (length t - a) (drop a t)) ≡ over (letters (cs ++ take (8 * E - n) A)) t₀
     whole-words =
@@ -177,16 +178,19 @@ module _ (n m k : ℕ) (cs ds : List ℕ) (e : length cs ≡ n) (g : length ds �
         let l16 : length (take (n + 16 * m) L) ≡ n + 16 * m = length-take-le (n + 16 * m) L (omega (arith, long)) in
         let ll : length (letters X) ≡ E = letters-long X ∙ omega arith in
         let same : take a t ++ M ≡ letters X =
-        ext-getD 0 (take a t ++ M) (letters X) (words-long ∙ sym ll) (λ i l. word-is i (omega (arith, words-long)) ∙ sym (letters-word L (8 * E) i (omega (arith, long)) (omega (arith, words-long)))) in
-        lent a M t ys (omega arith) c
+        ext-getD 0 (take a t ++ M) (letters X) (words-long ∙ sym ll)
+        (λ i l. word-is i (omega (arith, words-long)) ∙ sym (letters-word L (8 * E) i (omega (arith, long)) (omega (arith, words-long)))) in
+        lent a M t ys c ∙ at-as-front a M t (omega arith)
         ∙ ap (over (take a t ++ M)) (w ∙ ap (λ z. over (letters z) t₀) sixteen)
         ∙ over-over (letters (take (n + 16 * m) L)) (take a t ++ M) t₀ (omega (arith, words-long, letters-long (take (n + 16 * m) L)))
         ∙ ap (λ z. over z t₀) (same ∙ ap letters (sym (upto (8 * E) (omega arith))))
 
 -- ---- the same of the code's numbers
 -- where the words begin and end
-pub wide : (n m k len : ℕ) → 0 < m → 24 ≤ k → n + k * m ≤ 8 * len
-    → (n + 16 * m ≤ n + k * m) × ((n + 7) / 8 + m ≤ (n + k * m) / 8) × ((n + k * m) / 8 ≤ len) × (n + m ≤ 8 * ((n + k * m) / 8))
+abbrev pub Wide : ℕ → ℕ → ℕ → ℕ → Type 0
+Wide n m k len = (n + 16 * m ≤ n + k * m) × ((n + 7) / 8 + m ≤ (n + k * m) / 8) × ((n + k * m) / 8 ≤ len) × (n + m ≤ 8 * ((n + k * m) / 8))
+
+pub wide : (n m k len : ℕ) → 0 < m → 24 ≤ k → n + k * m ≤ 8 * len → Wide n m k len
 wide n m k len p h l = let y = mul-le-mul-right m h in (omega arith, omega arith, omega arith, omega arith)
 
 -- sixteen copies, whole words from the first that begins behind the n codes on, and the rest

@@ -1,46 +1,33 @@
 -- Codes in words, eight at a time. Assumes nothing.
 use Prim.Native.Nat.{ℕ, _+_, _-_, _*_, _/_, _%_, _^_, _≤_, _<_}
 use native.Mathlib.Omega.{arith}
-use native.Mathlib.Nat.{mul-add-mod-self-right, mod-eq-of-lt, mul-assoc, add-mul, suc-mul, mul-le-mul-right}
+use native.Mathlib.Nat.{mod-eq-of-lt, add-mul, suc-mul, mul-le-mul-right}
 use mathlib.Core.Path.{_≡_, sym, ap, ap₂, _∙_}
 use mathlib.Core.Bool.{Bool}
 use mathlib.Core.List.{List, _++_, append-assoc}
 use lib.ListN.{length, take, drop, getD, set, length-append, length-drop, length-set}
 use lib.Seq.{drop-at, take-append-le, drop-append-le, take-take, drop-drop, drop-append-add, take-add, length-take-le}
-use lib.Pow.{pow-add}
 use Rattle.format.specs.Bits.{spread, adjusted}
-use Rattle.format.specs.Tables.{letters, codes}
+use Rattle.format.specs.Tables.{letters}
 use Rattle.format.specs.Answers.{over}
 use Rattle.format.proofs.Choices.{split}
-use Rattle.format.proofs.BitLaws.{adjusted-lt, adjusted-add, adjusted-div}
+use Rattle.format.proofs.BitLaws.{adjusted-lt, adjusted-div}
 use Rattle.format.proofs.Parts.{drop-take}
 use Rattle.fill.specs.Copies.{again}
 use Rattle.fill.specs.Texts.{EightAre}
 use Rattle.fill.proofs.AgainLaws.{again-length, again-add}
 use Rattle.fill.proofs.BitWords.{spread-drop, spread-take, adjusted-take}
 use Rattle.fill.proofs.Letters.{word-at, Copied}
-use Rattle.fill.proofs.SomeCodes.{put-eight}
+use Rattle.fill.proofs.SomeCodes.{up-by, put-eight}
 
 -- ---- eight codes that are there, in two words or in one
 joined : (r : ℕ) (bs : List Bool) → r ≤ 64 → (adjusted 64 bs * 2 ^ r % 2 ^ 64 + adjusted 64 (drop 64 bs) / 2 ^ (64 - r)) % 2 ^ 64 ≡ adjusted 64 (drop r bs)
 joined r bs h =
-    let a : ℕ = adjusted r bs in
-    let y : ℕ = adjusted (64 - r) (drop r bs) in
+    let u = up-by r bs h in
     let e : r + (64 - r) ≡ 64 = omega arith in
-    let f : 64 - r + r ≡ 64 = omega arith in
-    let pq : 2 ^ (64 - r) * 2 ^ r ≡ 2 ^ 64 = sym (pow-add 2 (64 - r) r) ∙ ap (λ n. 2 ^ n) f in
-    let one : adjusted 64 bs ≡ a * 2 ^ (64 - r) + y = ap (λ n. adjusted n bs) (sym e) ∙ adjusted-add r (64 - r) bs in
-    let two : adjusted 64 bs * 2 ^ r ≡ a * 2 ^ 64 + y * 2 ^ r =
-    ap (λ n. n * 2 ^ r) one ∙ add-mul (a * 2 ^ (64 - r)) y (2 ^ r) ∙ ap (λ n. n + y * 2 ^ r) (mul-assoc a (2 ^ (64 - r)) (2 ^ r) ∙ ap (λ n. a * n) pq) in
-    let d : drop (64 - r) (drop r bs) ≡ drop 64 bs = drop-drop (64 - r) r bs ∙ ap (λ n. drop n bs) e in
-    let sum : adjusted 64 (drop r bs) ≡ y * 2 ^ r + adjusted r (drop 64 bs) =
-    ap (λ n. adjusted n (drop r bs)) (sym f) ∙ adjusted-add (64 - r) r (drop r bs) ∙ ap (λ z. y * 2 ^ r + adjusted r z) d in
-    let lt = adjusted-lt 64 (drop r bs) in
-    let low : adjusted 64 bs * 2 ^ r % 2 ^ 64 ≡ y * 2 ^ r =
-    ap (λ n. n % 2 ^ 64) two ∙ mul-add-mod-self-right a (2 ^ 64) (y * 2 ^ r) ∙ mod-eq-of-lt (omega arith) in
     let high : adjusted 64 (drop 64 bs) / 2 ^ (64 - r) ≡ adjusted r (drop 64 bs) =
     ap (λ n. adjusted n (drop 64 bs) / 2 ^ (64 - r)) (sym e) ∙ adjusted-div r (64 - r) (drop 64 bs) in
-    ap₂ (λ u v. (u + v) % 2 ^ 64) low high ∙ ap (λ n. n % 2 ^ 64) (sym sum) ∙ mod-eq-of-lt lt
+    ap₂ (λ x y. (x + y) % 2 ^ 64) (u .0) high ∙ ap (λ n. n % 2 ^ 64) (sym (u .1)) ∙ mod-eq-of-lt (adjusted-lt 64 (drop r bs))
 
 -- from the word of the n-th code on
 eight-from : (n : ℕ) (cs : List ℕ) → adjusted 64 (drop (8 * (n % 8)) (drop (64 * (n / 8)) (spread 8 cs))) ≡ adjusted 64 (spread 8 (take 8 (drop n cs)))
@@ -74,7 +61,8 @@ periodic ds m q k i e h =
     let len : length (again r ds) ≡ r * m = again-length ds m e r in
     let some : i + 8 ≤ r * m = omega (arith, add-mul q r m, ap (λ n. n * m) a) in
     let one : drop (q * m + i) (again k ds) ≡ drop i (again r ds) =
-    sym (drop-drop i (q * m) (again k ds)) ∙ ap (drop i) (ap (λ n. drop (q * m) (again n ds)) (sym a) ∙ ap (drop (q * m)) (again-add q r ds) ∙ drop-at (again q ds) (again r ds) (q * m) (again-length ds m e q)) in
+    sym (drop-drop i (q * m) (again k ds))
+    ∙ ap (drop i) (ap (λ n. drop (q * m) (again n ds)) (sym a) ∙ ap (drop (q * m)) (again-add q r ds) ∙ drop-at (again q ds) (again r ds) (q * m) (again-length ds m e q)) in
     let two : take 8 (drop i (again k ds)) ≡ take 8 (drop i (again r ds)) =
     ap (λ n. take 8 (drop i (again n ds))) (sym b) ∙ ap (λ l. take 8 (drop i l)) (again-add r q ds) ∙ ap (take 8) (drop-append-le i (again r ds) (again q ds) (omega arith))
     ∙ take-append-le 8 (drop i (again r ds)) (again q ds) (omega (arith, length-drop i (again r ds))) in
@@ -84,7 +72,6 @@ periodic ds m q k i e h =
 pub copied-eights : (n m k b : ℕ) (t₀ t : List ℕ) (to q p v : ℕ) → to + 8 ≤ n + k * m → to % 8 ≡ 0 → to + 8 ≤ 8 * length t → p ≡ q * m → n + p ≤ to → 8 ≤ p
     → Copied n m k b t₀ t to → EightAre (to - p) t v → Copied n m k b t₀ (set t (to / 8) v) (to + 8)
 copied-eights n m k b t₀ t to q p v h z l ep hp p8 c r =
-    let f = c .from in
     record {
       from = omega arith;
       upto = h;

@@ -8,11 +8,12 @@ use mathlib.Core.List.{List, [], _∷_, _++_, append-assoc, append-nil}
 use lib.ListN.{length, take, drop, getD, set, length-append, length-drop, List·getD-append}
 use lib.Seq.{take-at, drop-at, drop-append-le, drop-cons, length-take-le, getD-take, getD-append-add, take-suc, take-all}
 use Rattle.format.specs.Bits.{bit, spread, adjusted, packed, wordsFor}
-use Rattle.format.specs.Tables.{inWords, letters, codes}
+use Rattle.format.specs.Tables.{inWords, letters}
 use Rattle.format.specs.Answers.{over}
 use Rattle.format.proofs.Choices.{split}
 use Rattle.format.proofs.BitLaws.{spread-length, packed-length, packed-at, adjusted-add, adjusted-byte, adjusted-bits}
-use Rattle.fill.proofs.Over.{none-in, over-part, over-over, set-word}
+use Rattle.format.proofs.Over.{over-part, over-over, at-as-front, set-at}
+use Rattle.fill.proofs.AgainLaws.{none-in}
 use Rattle.fill.specs.Texts.{Spelt, Low, CodeIs, SpeltFrom, SpeltAgain}
 use Rattle.fill.specs.Copies.{again}
 use Rattle.fill.proofs.AgainLaws.{again-length, again-none}
@@ -86,7 +87,7 @@ module _ (cs : List ℕ) where
     -- the word at m is stored anew
     pub stored : (v : ℕ) → m < length t → set t m v ≡ over (before ++ (v ∷ [])) t₀
     stored v h =
-        set-word m t v h ∙ ap₂ (λ a b. over (a ++ (v ∷ [])) b) words-before e
+        set-at m v t h ∙ at-as-front m (v ∷ []) t (omega arith) ∙ ap₂ (λ a b. over (a ++ (v ∷ [])) b) words-before e
         ∙ over-over (letters cs) (before ++ (v ∷ [])) t₀ (omega (arith, letters-long, length-append before (v ∷ []), packed-length 64 m (spread 8 cs)))
 
     pub word-at : (i : ℕ) → i < (8 * length cs + 63) / 64 → getD t i 0 ≡ adjusted 64 (drop (64 * i) (spread 8 cs))
@@ -159,7 +160,8 @@ pub record Copied (n m k b : ℕ) (t₀ t : List ℕ) (to : ℕ) : Type 0 where
   pub from : n + m ≤ to
   pub upto : to ≤ n + k * m
   pub long : length t ≡ length t₀
-  pub so-far : (cs ds u : List ℕ) → length cs ≡ n → length ds ≡ m → Low ds → t₀ ≡ over (letters (cs ++ take (b - n) (again k ds))) u → t ≡ over (letters (cs ++ take (to - n) (again k ds))) u
+  pub so-far : (cs ds u : List ℕ) → length cs ≡ n → length ds ≡ m → Low ds → t₀ ≡ over (letters (cs ++ take (b - n) (again k ds))) u
+      → t ≡ over (letters (cs ++ take (to - n) (again k ds))) u
 
 pub copied-start : (n m k b : ℕ) (t : List ℕ) → n + m ≤ b → b ≤ n + k * m → Copied n m k b t t b
 copied-start n m k b t h g = record { from = h; upto = g; long = refl; so-far = λ cs ds u e f low w. w }
@@ -197,11 +199,11 @@ copied-step n m k b t₀ t to h v c r u lu p =
         let cc : c ≡ getD A j 0 = r L z (omega arith) (rw x2 x6) w ∙ x2 ∙ sym x4 ∙ ap (λ q. getD A q 0) x5 in
         let y1 : to + 1 - n ≡ suc j = omega arith in
         p L z ll w
-        ∙ ap (λ q. over (letters q) z) (append-assoc cs (take j A) (c ∷ []) ∙ ap (λ q. cs ++ q) (ap (λ q. take j A ++ (q ∷ [])) cc ∙ sym (take-suc A j 0 (omega arith)) ∙ ap (λ q. take q A) (sym y1)))
+        ∙ ap (λ q. over (letters q) z)
+        (append-assoc cs (take j A) (c ∷ []) ∙ ap (λ q. cs ++ q) (ap (λ q. take j A ++ (q ∷ [])) cc ∙ sym (take-suc A j 0 (omega arith)) ∙ ap (λ q. take q A) (sym y1)))
 
 pub copied-end : (n m k b : ℕ) (t₀ t : List ℕ) (to : ℕ) → n + k * m ≤ to → Copied n m k b t₀ t to → SpeltFrom n m k b t₀ t
 copied-end n m k b t₀ t to h v cs ds z e g low w =
-    let u = v .upto in
     v .so-far cs ds z e g low w ∙ ap (λ q. over (letters (cs ++ q)) z) (take-all (to - n) (again k ds) (omega (arith, again-length ds m g k)))
 
 -- ---- from the first time on

@@ -1,11 +1,10 @@
-pub mod Over
 pub mod Regions
 pub mod CopyLaws
 pub mod AgainLaws
 pub mod Doubling
 pub mod RowFill
-pub mod Turns
 pub mod RowLaws
+pub mod LaidLaws
 pub mod PlainLaws
 pub mod ContainerLaws
 pub mod BitWords
@@ -20,6 +19,7 @@ pub mod StringLaws
 pub mod Spelling
 pub mod TextLaws
 pub mod TryLaws
+pub mod ContentLaws
 pub mod ObjectLaws
 pub mod WalkLaws
 pub mod ShortWalk

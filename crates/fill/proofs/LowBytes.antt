@@ -109,7 +109,6 @@ pub low-rest : (c : List ℕ) (n i v : ℕ) (t₀ t u : List ℕ) → i ≤ leng
     → Spelt n (lows (take i c)) t₀ t → PutSome (n + i) (length c - i) v t u → Spelt n (lows c) t₀ u
 low-rest c n i v t₀ t u h e p q =
     let k : ℕ = length c - i in
-    let s : i + k ≡ length c = omega arith in
     let r = low-more c n i k v t₀ t u (omega arith) (e ∙ ap (λ x. wordOf (lows x)) (take-take k k (drop i c) (omega arith))) p q in
     rw (take-all (i + k) c (omega arith)) at r
 

@@ -13,16 +13,14 @@ use Rattle.format.specs.Items.{Leaf, bits, Items, end, one, leafKind}
 use Rattle.format.specs.Tables.{count, rows, inWords, leafWords, dataWords, leafA, leafB, rowWords}
 use Rattle.format.specs.Answers.{over}
 use Rattle.format.specs.Objects as O
-use Rattle.format.specs.Messages.{Outcome, bad, got, object, reads}
-use Rattle.format.specs.declared.Class.the-variants as C
+use Rattle.format.specs.Messages.{Outcome, got, object, reads}
 use Rattle.format.proofs.Choices.{split}
-use Rattle.format.proofs.Steps.{objectAt}
+use Rattle.format.specs.Runs.{objectAt}
 use Rattle.format.proofs.BitLaws.{packed-length, spread-length}
 use Rattle.wire.proofs.head.Head.{the-type}
 use Rattle.wire.specs.declared.head.Head.{Head}
-use Rattle.wire.specs.declared.head.Head.the-variants.{Stop, Gap, Row, Short, Long, Text, Open}
-use Rattle.wire.specs.Heads.{HeadIs, IsRow, IsShort, bitsFrom}
-use Rattle.wire.proofs.HeadLaws.{by-class, padding-gap}
+use Rattle.wire.specs.declared.head.Head.the-variants.{Stop, Gap, Row, Sbits, Lbits, Text, Open}
+use Rattle.wire.specs.Heads.{HeadIs, IsRow, IsSbits, bitsFrom}
 use Rattle.fill.specs.Plain.{Apt, plainRows, plainWords, placedAs, plainPlaced}
 
 -- ---- what a head has shown: the items xs, and u bytes past the type-byte
@@ -57,17 +55,16 @@ shown-bits s h bs n u e w r p =
       placed-is = p ∙ ap (λ m. placedAs 1 1 m u) (sym (ap length d ∙ packed-length 64 (wordsFor n) bs));
     }
 
-short-words : (bs : List Bool) (n w : ℕ) → IsShort bs n w → take (wordsFor n) (w ∷ []) ≡ packed 64 (wordsFor n) bs
+sbits-words : (bs : List Bool) (n w : ℕ) → IsSbits bs n w → take (wordsFor n) (w ∷ []) ≡ packed 64 (wordsFor n) bs
 unfolding wordsFor packed
-short-words bs n w r =
-    let f = r .few in
+sbits-words bs n w r =
     split 0 n
     (λ p. let e : (n + 63) / 64 ≡ 1 = omega arith in rw e (ap (λ v. v ∷ []) (sym (r .word))))
     (λ z. let e : (n + 63) / 64 ≡ 0 = omega arith in rw e refl)
 
-pub long-length : (s : List ℕ) (a n : ℕ) → a + bytesFor n ≤ length s → length (bitsFrom s a n) ≡ n
+pub lbits-length : (s : List ℕ) (a n : ℕ) → a + bytesFor n ≤ length s → length (bitsFrom s a n) ≡ n
 unfolding bytesFor
-long-length s a n h =
+lbits-length s a n h =
     let l : length (take ((n + 7) / 8) (drop a s)) ≡ (n + 7) / 8 = simp (length-take, length-drop) (omega arith) in
     length-take-le n _ (omega (arith, spread-length 8 (take ((n + 7) / 8) (drop a s))))
 
@@ -81,8 +78,8 @@ unfolding Apt
 head-apt s (Stop f) m e = tt
 head-apt s Gap m e = tt
 head-apt s (Row k v u) m e = tt
-head-apt s (Short n w u) m e = e .2 .few
-head-apt s (Long a n u) m e = (e .1, e .2)
+head-apt s (Sbits n w u) m e = e .2 .few
+head-apt s (Lbits a n u) m e = (e .1, e .2)
 head-apt s (Text a n) m e = tt
 head-apt s (Open w a n) m e = tt
 
@@ -90,7 +87,6 @@ module _ (s : List ℕ) (inside : ℕ → ℕ → Outcome) (xs : Items) (u : ℕ
   given : (h : Head) (m : O.Head) (ys : Items) (v : ℕ) → m ≡ O.gives ys v → object inside m ≡ got xs u → Shown s h ys v → Shown s h xs u
   unfolding object
   given h m ys v e f r =
-      let g : got ys v ≡ got xs u = sym (ap (object inside) e) ∙ f in
       let p : ys ≡ xs = cc in
       let q : v ≡ u = cc in
       subst (λ z. Shown s h z u) p (subst (Shown s h ys) q r)
@@ -98,17 +94,16 @@ module _ (s : List ℕ) (inside : ℕ → ℕ → Outcome) (xs : Items) (u : ℕ
   plain-shown : (h : Head) (m : O.Head) → OneOf plain-tags (tagOf the-type h) → HeadIs s h m → object inside m ≡ got xs u → Shown s h xs u
   unfolding object plainWords plainRows plainPlaced
   plain-shown (Stop x) m t e f =
-      let g : bad x ≡ got xs u = sym (ap (object inside) e) ∙ f in
       let z : _≡_ {A = ℕ} 0 1 = cc in
       absurd (omega arith)
   plain-shown Gap m t e f = given Gap m end 0 e f (shown-gap s)
   plain-shown (Row k v w) m t e f = given (Row k v w) m (one (e .0)) w (e .1) f (shown-row s (e .0) k v w (e .2))
-  plain-shown (Short n w v) m t e f =
-      given (Short n w v) m (one (bits (e .0))) v (e .1) f
-      (shown-bits s (Short n w v) (e .0) n v (e .2 .many) (short-words (e .0) n w (e .2)) (λ base. refl) refl)
-  plain-shown (Long a n v) m t e f =
-      given (Long a n v) m (one (bits (bitsFrom s a n))) v (e .0) f
-      (let b = e .1 in let c = e .2 in shown-bits s (Long a n v) (bitsFrom s a n) n v (long-length s a n (omega arith)) refl (λ base. refl) refl)
+  plain-shown (Sbits n w v) m t e f =
+      given (Sbits n w v) m (one (bits (e .0))) v (e .1) f
+      (shown-bits s (Sbits n w v) (e .0) n v (e .2 .many) (sbits-words (e .0) n w (e .2)) (λ base. refl) refl)
+  plain-shown (Lbits a n v) m t e f =
+      given (Lbits a n v) m (one (bits (bitsFrom s a n))) v (e .0) f
+      (shown-bits s (Lbits a n v) (bitsFrom s a n) n v (lbits-length s a n (omega arith)) refl (λ base. refl) refl)
   plain-shown (Text a n) m t e f = absurd (miss plain-tags 5 tt t)
   plain-shown (Open w a n) m t e f = absurd (miss plain-tags 6 tt t)
 
@@ -123,8 +118,8 @@ unfolding plainPlaced plainRows
 no-rows s (Stop f) t = (refl, λ base. refl)
 no-rows s Gap t = (refl, λ base. refl)
 no-rows s (Row k v u) t = absurd (miss (0 ∷ 1 ∷ 5 ∷ 6 ∷ []) 2 tt t)
-no-rows s (Short n w u) t = absurd (miss (0 ∷ 1 ∷ 5 ∷ 6 ∷ []) 3 tt t)
-no-rows s (Long a n u) t = absurd (miss (0 ∷ 1 ∷ 5 ∷ 6 ∷ []) 4 tt t)
+no-rows s (Sbits n w u) t = absurd (miss (0 ∷ 1 ∷ 5 ∷ 6 ∷ []) 3 tt t)
+no-rows s (Lbits a n u) t = absurd (miss (0 ∷ 1 ∷ 5 ∷ 6 ∷ []) 4 tt t)
 no-rows s (Text a n) t = (refl, λ base. refl)
 no-rows s (Open w a n) t = (refl, λ base. refl)
 
@@ -133,28 +128,24 @@ unfolding plainWords
 no-words s (Stop f) t = refl
 no-words s Gap t = refl
 no-words s (Row k v u) t = refl
-no-words s (Short n w u) t = absurd (miss (0 ∷ 1 ∷ 2 ∷ 5 ∷ 6 ∷ []) 3 tt t)
-no-words s (Long a n u) t = absurd (miss (0 ∷ 1 ∷ 2 ∷ 5 ∷ 6 ∷ []) 4 tt t)
+no-words s (Sbits n w u) t = absurd (miss (0 ∷ 1 ∷ 2 ∷ 5 ∷ 6 ∷ []) 3 tt t)
+no-words s (Lbits a n u) t = absurd (miss (0 ∷ 1 ∷ 2 ∷ 5 ∷ 6 ∷ []) 4 tt t)
 no-words s (Text a n) t = refl
 no-words s (Open w a n) t = refl
 
--- ---- the data words of a short BITS, none or one
-pub short-none : (s : List ℕ) (n w u : ℕ) → n ≡ 0 → plainWords s (Short n w u) ≡ []
+-- ---- the data words of an SBITSTR, none or one
+pub sbits-none : (s : List ℕ) (n w u : ℕ) → n ≡ 0 → plainWords s (Sbits n w u) ≡ []
 unfolding plainWords wordsFor
-short-none s n w u e = rw e refl
+sbits-none s n w u e = rw e refl
 
-pub short-one : (s : List ℕ) (n w u : ℕ) → 0 < n → n ≤ 63 → plainWords s (Short n w u) ≡ w ∷ []
+pub sbits-one : (s : List ℕ) (n w u : ℕ) → 0 < n → n ≤ 63 → plainWords s (Sbits n w u) ≡ w ∷ []
 unfolding plainWords wordsFor
-short-one s n w u z h = let e : (n + 63) / 64 ≡ 1 = omega arith in rw e refl
+sbits-one s n w u z h = let e : (n + 63) / 64 ≡ 1 = omega arith in rw e refl
 
--- of a long one, as the code lends its bytes
-pub long-words : (s : List ℕ) (a n u : ℕ) (t : List ℕ) → a + bytesFor n ≡ u
-    → over (packed 64 (wordsFor n) (take n (spread 8 (take (u - a) (drop a s))))) t ≡ over (plainWords s (Long a n u)) t
+-- of an LBITSTR, as the code lends its bytes
+pub lbits-words : (s : List ℕ) (a n u : ℕ) (t : List ℕ) → a + bytesFor n ≡ u
+    → over (packed 64 (wordsFor n) (take n (spread 8 (take (u - a) (drop a s))))) t ≡ over (plainWords s (Lbits a n u)) t
 unfolding plainWords
-long-words s a n u t e =
+lbits-words s a n u t e =
     let d : u - a ≡ bytesFor n = omega arith in
     ap (λ m. over (packed 64 (wordsFor n) (take n (spread 8 (take m (drop a s))))) t) d
-
--- ---- padding
-pub gap-head : (d b : ℕ) (s : List ℕ) → b ≡ 0xff → HeadIs s Gap (O.headOf d b s)
-gap-head d b s e = rw e (by-class d 0xff s Gap C.Padding (unfold Rattle.format.specs.Classes.classOf in refl) (padding-gap d 0xff s))

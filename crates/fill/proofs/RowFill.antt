@@ -9,8 +9,8 @@ use lib.ListN.{length, take, getD, set}
 use lib.Seq.{length-take-le}
 use Rattle.format.proofs.Choices.{byPick}
 use Rattle.format.specs.Answers.{over}
-use Rattle.fill.specs.Copies.{placed, shift, moved, copies, again}
-use Rattle.fill.proofs.Over.{over-length, grown, set-row}
+use Rattle.fill.specs.Copies.{inData, shift, rebased, copies, again}
+use Rattle.format.proofs.Over.{over-length, over-next, set-three}
 use Rattle.fill.proofs.CopyLaws.{copies-length}
 use Rattle.fill.proofs.Doubling.{copies-add, Doubled, doubled-start}
 
@@ -19,11 +19,11 @@ stays : (k b : ℕ) → b < 2 ^ 64 → shift 0 k b ≡ b
 unfolding shift
 stays k b h =
     let z : b + 0 ≡ b = omega arith in
-    byPick (λ (x : ℕ). x ≡ b) (placed k) (λ t. rw z (mod-eq-of-lt h)) (λ t. refl)
+    byPick (λ (x : ℕ). x ≡ b) (inData k) (λ t. rw z (mod-eq-of-lt h)) (λ t. refl)
 
 -- the first row, once more
-row-again : (j : ℕ) (t : List ℕ) → 3 ≤ length t → getD t 2 0 < 2 ^ 64 → moved (j * 0) (copies 0 1 (take (3 * 1) t)) ≡ getD t 0 0 ∷ getD t 1 0 ∷ getD t 2 0 ∷ []
-unfolding moved copies
+row-again : (j : ℕ) (t : List ℕ) → 3 ≤ length t → getD t 2 0 < 2 ^ 64 → rebased (j * 0) (copies 0 1 (take (3 * 1) t)) ≡ getD t 0 0 ∷ getD t 1 0 ∷ getD t 2 0 ∷ []
+unfolding rebased copies
 row-again j [] h s = absurd (omega arith)
 row-again j (x ∷ []) h s = absurd (omega arith)
 row-again j (x ∷ y ∷ []) h s = absurd (omega arith)
@@ -46,17 +46,16 @@ filling-step k v0 v1 v2 t₀ t j room h f =
     let c = f .copied in
     let some = c .some in
     let long = c .long in
-    let k1 = mul-one k in
     let l : List ℕ = take (3 * 1) t₀ in
     let ll : length l ≡ 3 * 1 = length-take-le (3 * 1) t₀ (omega arith) in
     let lj : length (copies 0 j l) ≡ 3 * (j * 1) = copies-length 0 1 j l ll in
     let ls : length (copies 0 (j + 1) l) ≡ 3 * ((j + 1) * 1) = copies-length 0 1 (j + 1) l ll in
     let u : List ℕ = set (set (set t (3 * j) v0) (3 * j + 1) v1) (3 * j + 2) v2 in
-    let row : v0 ∷ v1 ∷ v2 ∷ [] ≡ moved (j * 0) (copies 0 1 l) =
+    let row : v0 ∷ v1 ∷ v2 ∷ [] ≡ rebased (j * 0) (copies 0 1 l) =
     ap₂ (λ x y. x ∷ v1 ∷ y ∷ []) (f .first0) (f .first2) ∙ ap (λ x. getD t₀ 0 0 ∷ x ∷ getD t₀ 2 0 ∷ []) (f .first1) ∙ sym (row-again j t₀ (omega arith) (f .small)) in
     let tb : u ≡ over (copies 0 (j + 1) l) t₀ =
-    set-row (3 * j) t v0 v1 v2 (omega arith)
-    ∙ grown (copies 0 j l) (v0 ∷ v1 ∷ v2 ∷ []) t₀ t (3 * j) (c .table-is) (omega (arith, mul-one j))
+    set-three (3 * j) t v0 v1 v2 (omega arith)
+    ∙ over-next (copies 0 j l) (v0 ∷ v1 ∷ v2 ∷ []) t₀ t (3 * j) (c .table-is) (omega (arith, mul-one j))
     ∙ ap (λ z. over z t₀) (ap (λ z. copies 0 j l ++ z) row ∙ sym (copies-add 0 1 j 1 l (c .some) ll)) in
     record {
       copied = record { some = omega arith; upto = omega arith; long = ap length tb ∙ over-length (copies 0 (j + 1) l) t₀ (omega (arith, mul-one (j + 1))); table-is = tb };
@@ -83,17 +82,17 @@ small-take (suc n) [] s i = omega arith
 small-take (suc n) (x ∷ l) s zero = s 0
 small-take (suc n) (x ∷ l) s (suc i) = small-take n l (λ j. s (suc j)) i
 
-moved-none : (l : List ℕ) → Small l → moved 0 l ≡ l
-unfolding moved
-moved-none [] s = refl
-moved-none (k ∷ []) s = refl
-moved-none (k ∷ a ∷ []) s = refl
-moved-none (k ∷ a ∷ b ∷ l) s = ap₂ (λ x y. k ∷ a ∷ x ∷ y) (stays k b (s 2)) (moved-none l (λ j. s (suc (suc (suc j)))))
+rebased-none : (l : List ℕ) → Small l → rebased 0 l ≡ l
+unfolding rebased
+rebased-none [] s = refl
+rebased-none (k ∷ []) s = refl
+rebased-none (k ∷ a ∷ []) s = refl
+rebased-none (k ∷ a ∷ b ∷ l) s = ap₂ (λ x y. k ∷ a ∷ x ∷ y) (stays k b (s 2)) (rebased-none l (λ j. s (suc (suc (suc j)))))
 
 copies-none : (k : ℕ) (l : List ℕ) → Small l → copies 0 k l ≡ again k l
 unfolding copies again
 copies-none zero l s = refl
-copies-none (suc k) l s = ap (λ x. l ++ x) (ap (copies 0 k) (moved-none l s) ∙ copies-none k l s)
+copies-none (suc k) l s = ap (λ x. l ++ x) (ap (copies 0 k) (rebased-none l s) ∙ copies-none k l s)
 
 pub plain-room : (r k n : ℕ) → 3 * (k * r) ≤ n → k * (3 * r) ≤ n
 plain-room r k n h = omega arith

@@ -5,8 +5,8 @@ use native.Mathlib.Nat.{mod-eq-of-lt, mul-add-mod-self-right, mul-assoc, add-mul
 use mathlib.Core.Path.{_≡_, refl, sym, ap, ap₂, _∙_}
 use mathlib.Core.Bool.{Bool}
 use mathlib.Core.List.{List, [], _∷_, _++_, append-assoc, append-nil}
-use lib.ListN.{length, drop, getD, set, length-append, length-drop, length-set, drop-of-length-le}
-use lib.Seq.{drop-append-le, drop-append-add}
+use lib.ListN.{length, drop, getD, set, length-append, length-set, drop-of-length-le}
+use lib.Seq.{drop-append-le, drop-append-add, drop-drop}
 use lib.Pow.{pow-add}
 use Rattle.format.specs.Bits.{bitsOf, spread, adjusted, packed, wordsFor}
 use Rattle.format.specs.Tables.{inWords, letters}
@@ -14,7 +14,7 @@ use Rattle.format.specs.Answers.{over}
 use Rattle.format.proofs.BitLaws.{bits-length, spread-length, packed-length, packed-parts, zero-adjusted, adjusted-add, adjusted-div, adjusted-lt, adjusted-bits}
 use Rattle.format.proofs.TableLaws.{spread-append}
 use Rattle.fill.specs.Texts.{wordOf, PutSome}
-use Rattle.fill.proofs.Over.{set-word, grown}
+use Rattle.format.proofs.Over.{set-at, over-next}
 use Rattle.fill.proofs.Letters.{before, so-far, far-length, adjusted-front, packed-prefix, stored, word-at}
 
 -- ---- bits behind others in a word
@@ -30,9 +30,10 @@ added r bs es e h =
     let three : adjusted 64 es / 2 ^ r ≡ adjusted (64 - r) es = ap (λ n. adjusted n es / 2 ^ r) q ∙ adjusted-div (64 - r) r es in
     omega arith
 
--- what of a word is behind its first bits, moved up
-moved-up : (r : ℕ) (bs : List Bool) → r ≤ 64 → length bs ≤ 64 → adjusted 64 bs * 2 ^ r % 2 ^ 64 ≡ adjusted 64 (drop r bs)
-moved-up r bs h l =
+-- a word moved up by r bits, and then what is behind its first r bits
+pub up-by : (r : ℕ) (bs : List Bool) → r ≤ 64 → (adjusted 64 bs * 2 ^ r % 2 ^ 64 ≡ adjusted (64 - r) (drop r bs) * 2 ^ r)
+    × (adjusted 64 (drop r bs) ≡ adjusted (64 - r) (drop r bs) * 2 ^ r + adjusted r (drop 64 bs))
+up-by r bs h =
     let a : ℕ = adjusted r bs in
     let y : ℕ = adjusted (64 - r) (drop r bs) in
     let e : r + (64 - r) ≡ 64 = omega arith in
@@ -41,11 +42,17 @@ moved-up r bs h l =
     let one : adjusted 64 bs ≡ a * 2 ^ (64 - r) + y = ap (λ n. adjusted n bs) (sym e) ∙ adjusted-add r (64 - r) bs in
     let two : adjusted 64 bs * 2 ^ r ≡ a * 2 ^ 64 + y * 2 ^ r =
     ap (λ n. n * 2 ^ r) one ∙ add-mul (a * 2 ^ (64 - r)) y (2 ^ r) ∙ ap (λ n. n + y * 2 ^ r) (mul-assoc a (2 ^ (64 - r)) (2 ^ r) ∙ ap (λ n. a * n) pq) in
-    let d : drop (64 - r) (drop r bs) ≡ [] = drop-of-length-le (drop r bs) {i = 64 - r} (omega (arith, length-drop r bs)) in
-    let sum : adjusted 64 (drop r bs) ≡ y * 2 ^ r + 0 =
-    ap (λ n. adjusted n (drop r bs)) (sym f) ∙ adjusted-add (64 - r) r (drop r bs) ∙ ap (λ z. y * 2 ^ r + z) (ap (adjusted r) d ∙ zero-adjusted r) in
+    let d : drop (64 - r) (drop r bs) ≡ drop 64 bs = drop-drop (64 - r) r bs ∙ ap (λ n. drop n bs) e in
+    let sum : adjusted 64 (drop r bs) ≡ y * 2 ^ r + adjusted r (drop 64 bs) =
+    ap (λ n. adjusted n (drop r bs)) (sym f) ∙ adjusted-add (64 - r) r (drop r bs) ∙ ap (λ z. y * 2 ^ r + adjusted r z) d in
     let lt = adjusted-lt 64 (drop r bs) in
-    ap (λ n. n % 2 ^ 64) two ∙ mul-add-mod-self-right a (2 ^ 64) (y * 2 ^ r) ∙ mod-eq-of-lt (omega arith) ∙ omega arith
+    (ap (λ n. n % 2 ^ 64) two ∙ mul-add-mod-self-right a (2 ^ 64) (y * 2 ^ r) ∙ mod-eq-of-lt (omega arith), sum)
+
+moved-up : (r : ℕ) (bs : List Bool) → r ≤ 64 → length bs ≤ 64 → adjusted 64 bs * 2 ^ r % 2 ^ 64 ≡ adjusted 64 (drop r bs)
+moved-up r bs h l =
+    let u = up-by r bs h in
+    let z : adjusted r (drop 64 bs) ≡ 0 = ap (adjusted r) (drop-of-length-le bs {i = 64} l) ∙ zero-adjusted r in
+    omega (arith, u .0, u .1)
 
 -- ---- the words of codes and of some more
 letters-some : (cs ds : List ℕ) (j : ℕ) → length cs / 8 + j ≡ (length cs + length ds + 7) / 8 → letters (cs ++ ds) ≡ before cs ++ packed 64 j (so-far cs ++ spread 8 ds)
@@ -101,7 +108,7 @@ module _ (cs ds t₀ t : List ℕ) (e : t ≡ over (letters cs) t₀) (p : 0 < l
       let k : 64 ≡ length (so-far cs) + (64 - r) = omega (arith, far-length cs) in
       let next : u ≡ adjusted 64 (drop 64 (so-far cs ++ B)) =
       w ∙ moved-up (64 - r) B (omega arith) (omega arith) ∙ ap (adjusted 64) (sym (ap (λ n. drop n (so-far cs ++ B)) k ∙ drop-append-add (so-far cs) B (64 - r))) in
-      set-word (m + 1) t₁ u (rw (length-set t m v) (omega arith)) ∙ grown (before cs ++ (v ∷ [])) (u ∷ []) t₀ t₁ (m + 1) one len
+      set-at (m + 1) u t₁ (rw (length-set t m v) (omega arith)) ∙ over-next (before cs ++ (v ∷ [])) (u ∷ []) t₀ t₁ (m + 1) one len
       ∙ ap (λ x. over x t₀)
       (append-assoc (before cs) (v ∷ []) (u ∷ []) ∙ ap₂ (λ x y. before cs ++ (x ∷ y ∷ [])) (q ∙ grown-word (omega arith)) next ∙ sym (letters-some cs ds 2 (omega arith)))
 

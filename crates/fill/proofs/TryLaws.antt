@@ -10,19 +10,18 @@ use borrow.Author.Tests.{eqb-false, ltb-false}
 use lib.ListN.{length, getD}
 use types.Run.{OneOf, miss}
 use denote.Enum.Declared.{tagOf}
-use Rattle.format.specs.Choice.{both, either, ifEq}
-use Rattle.format.specs.Items.{struc, edt, Items, isString}
-use Rattle.format.specs.Tables.{isText}
-use Rattle.format.specs.Objects.{characters}
+use Rattle.format.specs.Choice.{pick, both, either}
+use Rattle.format.specs.Items.{Items, isString}
 use Rattle.format.specs.Messages.{Outcome, says, reads}
-use Rattle.format.proofs.Choices.{whether, ifEq-yes, ifEq-no}
+use Rattle.format.proofs.Choices.{clash, whether}
 use Rattle.wire.proofs.head.Wrap.{the-type}
 use Rattle.wire.specs.declared.head.Wrap.{Wrap}
 use Rattle.wire.specs.declared.head.Wrap.the-variants.{Struc, Ustruc, Edt, Repeat}
 use Rattle.fill.specs.Containers.{isStruc, textIn}
-use Rattle.fill.specs.Shorts.{insideOf, groupOf, TextLike}
-use Rattle.fill.specs.Texts.{spells, textOf, TextRoom, Tried, TextTried}
-use Rattle.fill.proofs.TextLaws.{true-false, no-string}
+use Rattle.wire.specs.Heads.{wrapBy}
+use Rattle.fill.specs.Contents.{insideOf, TextLike}
+use Rattle.fill.specs.Texts.{spells, contentsSay, TextRoom, Tried, TextTried}
+use Rattle.fill.proofs.TextLaws.{no-string}
 use Rattle.fill.proofs.StringLaws.{no-chars, chars-start, chars-not}
 
 pub other-wrap : (w : Wrap) → OneOf (2 ∷ 3 ∷ []) (tagOf the-type w) → isStruc w ≡ false
@@ -32,69 +31,35 @@ other-wrap Ustruc k = absurd (miss (2 ∷ 3 ∷ []) 1 tt k)
 other-wrap Edt k = refl
 other-wrap (Repeat n) k = refl
 
--- ---- the same try, told of the same contents in other words
-module _ (o o′ : Outcome) (f g : Items → Bool) (same : o ≡ o′) (alike : (xs : Items) → f xs ≡ g xs) (base gap : ℕ) where
-  pub room-as : (len : ℕ) → TextRoom o f base gap len → TextRoom o′ g base gap len
-  room-as len r = record { items = r .items; said = sym same ∙ r .said; room = λ y. r .room (alike (r .items) ∙ y) }
-
-  pub tried-as : (t t′ : List ℕ) (r : ℕ) → TextTried o′ g base gap t t′ r → TextTried o f base gap t t′ r
-  tried-as t t′ r h xs e = subst (λ k. Tried k xs base gap t t′ r) (sym (alike xs)) (h xs (sym same ∙ e))
-
--- ---- by how a container closes
-run-text : (d : ℕ) (c : List ℕ) → reads d c ≡ textOf false d c
-unfolding textOf
-run-text d c = refl
-
-struc-text : (w : Wrap) (b : Bool) → b ≡ isStruc w → b ≡ true → (xs : Items) → textIn w xs ≡ isString xs
+-- ---- by how a container closes: a STRUC or USTRUC is asked whether it is a string, and nothing else
+pub struc-text : (w : Wrap) → isStruc w ≡ true → (xs : Items) → textIn w xs ≡ isString xs
 unfolding textIn both
-struc-text w b e y xs = rw (sym e ∙ y) refl
+struc-text w y xs = rw y refl
 
-pub in-room : (w : Wrap) (b : Bool) → b ≡ isStruc w → b ≡ true → (d : ℕ) (c : List ℕ) (base gap len : ℕ) → TextRoom (reads d c) (textIn w) base gap len → TextRoom (textOf false d c) isString base gap len
-in-room w b e y d c base gap = room-as (reads d c) (textOf false d c) (textIn w) isString (run-text d c) (struc-text w b e y) base gap
-
-pub in-tried : (w : Wrap) (b : Bool) → b ≡ isStruc w → b ≡ true → (d : ℕ) (c : List ℕ) (base gap : ℕ) (t t′ : List ℕ) (r : ℕ)
-    → TextTried (textOf false d c) isString base gap t t′ r → TextTried (reads d c) (textIn w) base gap t t′ r
-in-tried w b e y d c base gap = tried-as (reads d c) (textOf false d c) (textIn w) isString (run-text d c) (struc-text w b e y) base gap
-
-pub in-none : (w : Wrap) (b : Bool) → b ≡ isStruc w → b ≡ false → (o : Outcome) (base gap : ℕ) (t : List ℕ) → TextTried o (textIn w) base gap t t 0
+not-text : (w : Wrap) → isStruc w ≡ false → (xs : Items) → textIn w xs ≡ false
 unfolding textIn both
-in-none w b e n o base gap t = no-string o (textIn w) base gap t (λ xs _. rw (sym e ∙ n) refl)
+not-text w n xs = rw n refl
 
--- ---- by its type-byte
-short-as : (d b : ℕ) (c : List ℕ) → insideOf d b c ≡ textOf (eqb b 0xc6) (d + 1) c
-unfolding insideOf textOf ifEq
-short-as d b c = refl
+module _ (w : Wrap) {o : Outcome} {base gap : ℕ} where
+  pub room-as : isStruc w ≡ true → {t : List ℕ} → TextRoom o (textIn w) base gap t → TextRoom o isString base gap t
+  room-as y r = record { items = r .items; said = r .said; room = λ q. r .room (struc-text w y (r .items) ∙ q) }
 
-group-struc : (b : ℕ) → b ≢ 0xc3 → groupOf b ≡ struc
-unfolding groupOf
-group-struc b n = ifEq-no b 0xc3 edt struc n
+  pub tried-as : isStruc w ≡ true → {t t′ : List ℕ} {r : ℕ} → TextTried o isString base gap t t′ r → TextTried o (textIn w) base gap t t′ r
+  tried-as y {t} {t′} {r} h xs e = subst (λ k. Tried k xs base gap t t′ r) (sym (struc-text w y xs)) (h xs e)
 
-module _ (b : ℕ) (c : List ℕ) (r : Bool) (h : TextLike b c r) (d base gap : ℕ) where
-  short-text : r ≡ true → (xs : Items) → isText (groupOf b) xs ≡ isString xs
-  unfolding isText
-  short-text y xs = ap (λ g. isText g xs) (h .0 y)
+  pub tried-not : isStruc w ≡ false → (t : List ℕ) → TextTried o (textIn w) base gap t t 0
+  tried-not n t = no-string o (textIn w) base gap t (λ xs _. not-text w n xs)
 
-  module _ (raw : Bool) (e : raw ≡ eqb b 0xc6) (y : r ≡ true) where
-    as-raw : insideOf d b c ≡ textOf raw (d + 1) c
-    as-raw = short-as d b c ∙ ap (λ z. textOf z (d + 1) c) (sym e)
+-- ---- by its type-byte and its contents, where they cannot be a string's
+pub short-none : (b : ℕ) (c : List ℕ) {r : Bool} → TextLike b c r → r ≡ false → (d base gap : ℕ) (t : List ℕ) → TextTried (insideOf d b c) (textIn (wrapBy b)) base gap t t 0
+short-none b c h n d base gap t = no-string (insideOf d b c) (textIn (wrapBy b)) base gap t
+    (λ xs e. whether (textIn (wrapBy b) xs) (λ y. clash _ (h .1 d xs e y) n) (λ z. z))
 
-    pub short-room : (len : ℕ) → TextRoom (insideOf d b c) (isText (groupOf b)) base gap len → TextRoom (textOf raw (d + 1) c) isString base gap len
-    short-room = room-as (insideOf d b c) (textOf raw (d + 1) c) (isText (groupOf b)) isString as-raw (short-text y) base gap
+pub never-like : (b : ℕ) (c : List ℕ) → isStruc (wrapBy b) ≡ false → TextLike b c false
+never-like b c n = (λ y. clash false y refl, λ d xs s y. clash _ y (not-text (wrapBy b) n xs))
 
-    pub short-tried : (t t′ : List ℕ) (k : ℕ) → TextTried (textOf raw (d + 1) c) isString base gap t t′ k → TextTried (insideOf d b c) (isText (groupOf b)) base gap t t′ k
-    short-tried = tried-as (insideOf d b c) (textOf raw (d + 1) c) (isText (groupOf b)) isString as-raw (short-text y) base gap
-
-  pub short-none : r ≡ false → (t : List ℕ) → TextTried (insideOf d b c) (isText (groupOf b)) base gap t t 0
-  short-none n t = no-string (insideOf d b c) (isText (groupOf b)) base gap t
-      (λ xs e. whether (isText (groupOf b) xs) (λ y. absurd (true-false (sym (h .1 d xs e y) ∙ n))) (λ z. z))
-
--- ---- whether it can be a string
-pub edt-never : (b : ℕ) (c : List ℕ) → b ≡ 0xc3 → TextLike b c false
-unfolding groupOf isText
-edt-never b c e = (λ y. absurd (true-false (sym y)), λ d xs s y. absurd (true-false (sym y ∙ ap (λ g. isText g xs) (ifEq-yes b 0xc3 edt struc e))))
-
-pub like-true : (b : ℕ) (c : List ℕ) → b ≢ 0xc3 → TextLike b c true
-like-true b c n = (λ y. group-struc b n, λ d xs s y. refl)
+pub like-true : (b : ℕ) (c : List ℕ) → isStruc (wrapBy b) ≡ true → TextLike b c true
+like-true b c n = (λ y. n, λ d xs s y. refl)
 
 -- by the first byte of the contents
 spells-not : (x : ℕ) → spells x ≡ false → (0x80 ≤ x) × (x ≢ 0xff) × (x ≢ 0xc4)
@@ -102,20 +67,19 @@ unfolding spells either
 spells-not x = go (ltb x 0x80) (eqb x 0xff) (eqb x 0xc4) refl refl refl
   where
     go : (p q r : Bool) → ltb x 0x80 ≡ p → eqb x 0xff ≡ q → eqb x 0xc4 ≡ r → either p (either q r) ≡ false → (0x80 ≤ x) × (x ≢ 0xff) × (x ≢ 0xc4)
-    go true q r a b c e = absurd (true-false e)
-    go false true r a b c e = absurd (true-false e)
-    go false false true a b c e = absurd (true-false e)
+    go true q r a b c e = clash true refl e
+    go false true r a b c e = clash true refl e
+    go false false true a b c e = clash true refl e
     go false false false a b c e = (ltb-false x 0x80 a, eqb-false x 0xff b, eqb-false x 0xc4 c)
 
-pub by-first : (b : ℕ) (c : List ℕ) → b ≢ 0xc3 → b ≢ 0xc6 → 0 < length c → getD c 0 0 < 256 → (r : Bool) → r ≡ spells (getD c 0 0) → TextLike b c r
-unfolding insideOf isText
+pub by-first : (b : ℕ) (c : List ℕ) → isStruc (wrapBy b) ≡ true → eqb b 0xc6 ≡ false → 0 < length c → getD c 0 0 < 256 → (r : Bool) → r ≡ spells (getD c 0 0) → TextLike b c r
+unfolding contentsSay pick
 by-first b c n m h l r e = (
-  λ y. group-struc b n,
+  λ y. n,
   λ d xs s y. whether r (λ q. q) (λ q.
       let k = spells-not (getD c 0 0) (sym e ∙ q) in
-      let run : reads (d + 1) c ≡ says xs = sym (ifEq-no b 0xc6 (says (characters c)) (reads (d + 1) c) m) ∙ s in
+      let run : reads (d + 1) c ≡ says xs = sym (ap (λ z. contentsSay z (d + 1) c) m) ∙ s in
       let no : false ≡ isString xs =
-      chars-not (d + 1) c 0 (getD c 0 0) (chars-start (d + 1) c) h refl (no-chars (d + 1) (getD c 0 0) _ (k .0) (k .2) (omega (arith, l, k .1))) xs run in
-      let yes : isText struc xs ≡ true = subst (λ g. isText g xs ≡ true) (group-struc b n) y in
-      absurd (true-false (sym yes ∙ sym no))),
+      chars-not (chars-start (d + 1) c) h (no-chars (d + 1) (getD c 0 0) _ (k .0) (k .2) (omega (arith, l, k .1))) xs run in
+      clash _ y (struc-text (wrapBy b) n xs ∙ sym no)),
 )

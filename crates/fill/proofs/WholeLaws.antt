@@ -14,18 +14,20 @@ use Rattle.format.proofs.TableLaws.{row-length}
 use Rattle.fill.specs.declared.walk.Filled.{Filled}
 use Rattle.fill.specs.Walks.{RunFits, RunFilled}
 use Rattle.fill.specs.Whole.{Roomy, ItemsPut, laidOut}
-use Rattle.fill.proofs.Over.{over-self, over-length, part-length, fronted, lent}
+use Rattle.format.specs.Lent.{overAt}
+use Rattle.format.proofs.Over.{at-front, at-none, at-length, part-length, lent}
+use Rattle.fill.proofs.Regions.{fronted}
 use Rattle.fill.proofs.RowLaws.{count-rows}
 
 -- the items that an accepted message says, and what is known of them
-record Seen (o : Outcome) (r w len : ℕ) : Type 0 where
-  xs : Items
-  said : o ≡ says xs
-  rows-are : r ≡ rows xs
-  words-are : w ≡ words xs
-  few-rows : rows xs ≤ 16384
-  few-words : words xs ≤ 16384
-  room : 4 + 3 * rows xs + words xs ≤ len
+pub record Seen (m : List ℕ) (r w : ℕ) (t : List ℕ) : Type 0 where
+  pub xs : Items
+  pub said : outcome m ≡ says xs
+  pub rows-are : r ≡ rows xs
+  pub words-are : w ≡ words xs
+  pub few-rows : rows xs ≤ 16384
+  pub few-words : words xs ≤ 16384
+  pub room : 4 + 3 * rows xs + words xs ≤ length t
 
 none-there : (xs : Items) → rows xs ≡ 0 → xs ≡ end
 unfolding rows
@@ -33,52 +35,48 @@ none-there end e = refl
 none-there (leaf l xs) e = absurd (omega arith)
 none-there (group g c xs) e = absurd (omega arith)
 
-seen : (o : Outcome) (r w len : ℕ) → Roomy o r w len → Seen o r w len
+pub seen : (m : List ℕ) (r w : ℕ) (t : List ℕ) → Roomy (outcome m) r w (length t) → Seen m r w t
 unfolding Roomy wordsNeeded
-seen (refused f) r w len q = absurd q
-seen (says xs) r w len q =
-    record { xs = xs; said = refl; rows-are = q .0; words-are = q .1; few-rows = q .2; few-words = q .3; room = q .4 }
+seen m r w t = by (outcome m) refl
+  where
+    by : (o : Outcome) → outcome m ≡ o → Roomy o r w (length t) → Seen m r w t
+    by (refused f) e q = absurd q
+    by (says xs) e q = record { xs = xs; said = e; rows-are = q .0; words-are = q .1; few-rows = q .2; few-words = q .3; room = q .4 }
 
-module _ (m : List ℕ) (r w : ℕ) (t : List ℕ) (f : Roomy (outcome m) r w (length t)) where
-  s : Seen (outcome m) r w (length t)
-  s = seen (outcome m) r w (length t) f
+-- both parts of what the walk wrote
+joined : (g : ℕ) (a b p ys : List ℕ) → length a ≡ g → take g ys ≡ over a (take g p) → g ≤ length p → drop g ys ≡ overAt 0 b (drop g p) → ys ≡ over (a ++ b) p
+unfolding over
+joined g a b p ys e f h k =
+    let x : a ++ drop (length a) (take g p) ≡ a =
+    ap (λ z. a ++ z) (drop-of-length-le (take g p) {i = length a} (omega (arith, length-take-le g p h))) ∙ append-nil a in
+    let n : g + length b ≡ length (a ++ b) = omega (arith, length-append a b) in
+    sym (take-append-drop g ys) ∙ ap₂ _++_ (f ∙ x) (k ∙ at-front b (drop g p) ∙ ap (λ z. b ++ z) (drop-drop (length b) g p ∙ ap (λ i. drop i p) n))
+    ∙ sym (append-assoc a b (drop (length (a ++ b)) p))
 
-  said : reads 0 m ≡ says (s .xs)
-  said = unfold outcome in s .said
+module _ {m : List ℕ} {r w : ℕ} {t : List ℕ} (s : Seen m r w t) where
+  abbrev laid-out : List ℕ
+  laid-out = rowWords 0 (s .xs) ++ dataWords (s .xs)
+
+  abbrev P : List ℕ
+  P = take (length t - 4) (drop 4 t)
+
+  run-said : reads 0 m ≡ says (s .xs)
+  run-said = unfold outcome in s .said
 
   -- ---- rows and data words
-  pub items-fit : (4 ≤ length t) × RunFits 0 m 0 (3 * r) (length (take (length t - 4) (drop 4 t)))
+  pub items-fit : (4 ≤ length t) × RunFits 0 m 0 (3 * r) P
   items-fit =
-      let q = s .room in
-      let n = s .few-words in
-      let k = s .rows-are in
-      (omega arith, record { items = s .xs; said = said; fits = rw (part-length 4 t) (omega arith, omega arith, omega arith) })
+      (omega arith, record { items = s .xs; said = run-said; fits = rw (part-length 4 t) (omega arith, omega arith, omega arith, omega arith) })
 
-  pub rows-few : r ≤ 16384
-  rows-few = let n = s .few-rows in let k = s .rows-are in omega arith
-
-  -- both parts of what the walk wrote
-  joined : (g : ℕ) (a b p ys : List ℕ) → length a ≡ g → take g ys ≡ over a (take g p) → g ≤ length p → drop g ys ≡ over (take 0 (drop g p) ++ b) (drop g p) → ys ≡ over (a ++ b) p
-  unfolding over
-  joined g a b p ys e f h k =
-      let x : a ++ drop (length a) (take g p) ≡ a =
-      ap (λ z. a ++ z) (drop-of-length-le (take g p) {i = length a} (omega (arith, length-take-le g p h))) ∙ append-nil a in
-      let n : g + length b ≡ length (a ++ b) = omega (arith, length-append a b) in
-      sym (take-append-drop g ys) ∙ ap₂ _++_ (f ∙ x) (k ∙ ap (λ z. b ++ z) (drop-drop (length b) g p ∙ ap (λ i. drop i p) n))
-      ∙ sym (append-assoc a b (drop (length (a ++ b)) p))
-
-  pub items-put : (x : Filled) (ys : List ℕ) → RunFilled 0 m 0 (3 * r) (take (length t - 4) (drop 4 t)) ys x
-      → ItemsPut (outcome m) t (take 4 t ++ (ys ++ drop (length t - 4) (drop 4 t))) (x .count)
+  pub items-put : {x : Filled} {ys : List ℕ} → RunFilled 0 m 0 (3 * r) P ys x → ItemsPut (outcome m) t (take 4 t ++ (ys ++ drop (length t - 4) (drop 4 t))) (x .count)
   unfolding ItemsPut
-  items-put x ys g =
-      let e : says (g .items) ≡ says (s .xs) = sym (g .said) ∙ said in
+  items-put {ys = ys} g =
+      let e : says (g .items) ≡ says (s .xs) = sym (g .said) ∙ run-said in
       let i : g .items ≡ s .xs = cc in
       let l = rw i at (g .laid) in
-      let q = s .room in
-      let k = s .rows-are in
-      let j : ys ≡ over (rowWords 0 (s .xs) ++ dataWords (s .xs)) (take (length t - 4) (drop 4 t)) =
-      joined (3 * r) (rowWords 0 (s .xs)) (dataWords (s .xs)) (take (length t - 4) (drop 4 t)) ys (omega (arith, row-length 0 (s .xs))) (l .front-is) (omega (arith, part-length 4 t)) (l .back-is) in
-      rw (s .said) (l .count-is, lent 4 (rowWords 0 (s .xs) ++ dataWords (s .xs)) t ys (items-fit .0) j)
+      let n = part-length 4 t in
+      let j = joined (3 * r) (rowWords 0 (s .xs)) (dataWords (s .xs)) P ys (omega (arith, row-length 0 (s .xs))) (l .front-is) (omega arith) (l .back-is) in
+      rw (s .said) (l .count-is, lent 4 laid-out t ys j)
 
   -- no rows, no data words
   pub no-items : r ≡ 0 → ItemsPut (outcome m) t t 0
@@ -87,41 +85,28 @@ module _ (m : List ℕ) (r w : ℕ) (t : List ℕ) (f : Roomy (outcome m) r w (l
       let x = s .xs in
       let q : rows x ≡ 0 = sym (s .rows-are) ∙ z in
       let n : x ≡ end = none-there x q in
-      rw (s .said) (
-        omega (arith, count-rows x),
-        sym (ap (λ y. over (take 4 t ++ (rowWords 0 y ++ dataWords y)) t) n ∙ (unfold rowWords dataWords in ap (λ l. over l t) (append-nil (take 4 t)) ∙ over-self 4 t)),
-      )
+      rw (s .said)
+      (omega (arith, count-rows x), sym (ap (λ y. overAt 4 (rowWords 0 y ++ dataWords y) t) n ∙ (unfold rowWords dataWords in at-none 4 t)))
 
   -- ---- all of it
   module _ (n : ℕ) (t₁ : List ℕ) (p : ItemsPut (outcome m) t t₁ n) where
-    put : ItemsPut (says (s .xs)) t t₁ n
-    put = rw (s .said) at p
-
-    behind : (n ≡ count (s .xs)) × (t₁ ≡ over (take 4 t ++ (rowWords 0 (s .xs) ++ dataWords (s .xs))) t)
+    behind : (n ≡ count (s .xs)) × (t₁ ≡ overAt 4 laid-out t)
     unfolding ItemsPut
-    behind = put
+    behind = rw (s .said) at p
 
     pub header-room : (4 ≤ length t₁) × (r ≤ 16384)
     header-room =
-        let q = s .room in
-        let a = s .rows-are in
-        let b = s .few-rows in
-        let l1 = length-append (take 4 t) (rowWords 0 (s .xs) ++ dataWords (s .xs)) in
         let l2 = length-append (rowWords 0 (s .xs)) (dataWords (s .xs)) in
         let l3 = row-length 0 (s .xs) in
-        let l4 = length-take-le 4 t (omega arith) in
-        let l : length t₁ ≡ length t = ap length (behind .1) ∙ over-length (take 4 t ++ (rowWords 0 (s .xs) ++ dataWords (s .xs))) t (omega arith) in
+        let l : length t₁ ≡ length t = ap length (behind .1) ∙ at-length 4 laid-out t (omega arith) in
         (omega arith, omega arith)
 
-    pub whole : (t₃ : List ℕ) → t₃ ≡ over (r ∷ n ∷ (4 + 3 * r) ∷ w ∷ []) t₁ → t₃ ≡ laidOut (outcome m) t
+    pub whole : {t₃ : List ℕ} → t₃ ≡ over (r ∷ n ∷ (4 + 3 * r) ∷ w ∷ []) t₁ → t₃ ≡ laidOut (outcome m) t
     unfolding laidOut tableOf
-    whole t₃ e =
-        let q = s .room in
+    whole e =
         let x = s .xs in
         let h : List ℕ = r ∷ n ∷ (4 + 3 * r) ∷ w ∷ [] in
         let k : h ≡ rows x ∷ count x ∷ (4 + 3 * rows x) ∷ words x ∷ [] =
         ap (λ a. a ∷ n ∷ (4 + 3 * a) ∷ w ∷ []) (s .rows-are) ∙ ap₂ (λ a b. rows x ∷ a ∷ (4 + 3 * rows x) ∷ b ∷ []) (behind .0) (s .words-are) in
-        e ∙ ap (over h) (behind .1)
-        ∙ fronted (take 4 t) h (rowWords 0 x ++ dataWords x) t (length-take-le 4 t (omega arith))
-        ∙ ap (λ l. over (l ++ (rowWords 0 x ++ dataWords x)) t) k
+        e ∙ ap (over h) (behind .1) ∙ fronted 4 laid-out t (omega arith) h refl ∙ ap (λ l. over (l ++ laid-out) t) k
         ∙ ap (λ o. laidOut o t) (sym (s .said))

@@ -5,4 +5,4 @@ pub mod Containers
 pub mod Walks
 pub mod Whole
 pub mod Stretch
-pub mod Shorts
+pub mod Contents

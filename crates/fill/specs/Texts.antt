@@ -12,7 +12,9 @@ use Rattle.format.specs.Tables.{count, codes, letters, textWords}
 use Rattle.format.specs.Objects.{characters}
 use Rattle.format.specs.Messages.{Outcome, says, reads}
 use Rattle.format.specs.Answers.{over}
+use Rattle.format.specs.Lent.{overAt}
 use Rattle.fill.specs.Copies.{again}
+use Rattle.format.specs.Refusals.{wordLimit}
 
 -- the codes of bytes whose high bit is ignored
 abbrev pub lows : List ℕ → List ℕ
@@ -66,12 +68,12 @@ abbrev pub OnlyChars : ℕ → List ℕ → Bool → Type 0
 OnlyChars d s r = (xs : Items) → reads d s ≡ says xs → r ≡ isString xs
 
 -- the run is accepted and a string's, and its codes fit behind n others
-pub record TextFits (d : ℕ) (s : List ℕ) (n len : ℕ) : Type 0 where
+pub record TextFits (d : ℕ) (s : List ℕ) (n : ℕ) (t : List ℕ) : Type 0 where
   pub items : Items
   pub said : reads d s ≡ says items
   pub chars : isString items ≡ true
-  pub room : n + count items ≤ 8 * len
-  pub few : n + count items ≤ 131072
+  pub room : n + count items ≤ 8 * length t
+  pub few : n + count items ≤ 8 * wordLimit
 
 pub record TextPut (d : ℕ) (s : List ℕ) (n : ℕ) (t t′ : List ℕ) (r : ℕ) : Type 0 where
   pub items : Items
@@ -82,44 +84,44 @@ pub record TextPut (d : ℕ) (s : List ℕ) (n : ℕ) (t t′ : List ℕ) (r : �
   pub spelt : Spelt n (codes items) t t′
 
 -- what the contents of a string say: every byte is a character, or they are a run
-unfoldable pub textOf : Bool → ℕ → List ℕ → Outcome
+unfoldable pub contentsSay : Bool → ℕ → List ℕ → Outcome
 unfolding pick characters reads
-textOf raw d c = pick raw (says (characters c)) (reads d c)
+contentsSay raw d c = pick raw (says (characters c)) (reads d c)
 
-pub record StringFits (raw : Bool) (d : ℕ) (c : List ℕ) (len : ℕ) : Type 0 where
+pub record StringFits (raw : Bool) (d : ℕ) (c t : List ℕ) : Type 0 where
   pub items : Items
-  pub said : textOf raw d c ≡ says items
+  pub said : contentsSay raw d c ≡ says items
   pub chars : isString items ≡ true
-  pub room : length (textWords items) ≤ len
-  pub few : length (textWords items) ≤ 16384
+  pub room : length (textWords items) ≤ length t
+  pub few : length (textWords items) ≤ wordLimit
 
 pub record StringPut (raw : Bool) (d : ℕ) (c t t′ : List ℕ) (r : ℕ) : Type 0 where
   pub items : Items
-  pub said : textOf raw d c ≡ says items
+  pub said : contentsSay raw d c ≡ says items
   pub chars : isString items ≡ true
   pub count-is : r ≡ count items
   pub table-is : t′ ≡ over (textWords items) t
 
 -- contents say the same where they are taken so
 abbrev pub Bytewise : Bool → List ℕ → Bool → Type 0
-Bytewise raw c each = (d : ℕ) → textOf each d c ≡ textOf raw d c
+Bytewise raw c each = (d : ℕ) → contentsSay each d c ≡ contentsSay raw d c
 
 -- whether contents are a string's
 abbrev pub TextIn : Bool → ℕ → List ℕ → Bool → Type 0
-TextIn raw d c r = (xs : Items) → textOf raw d c ≡ says xs → r ≡ isString xs
+TextIn raw d c r = (xs : Items) → contentsSay raw d c ≡ says xs → r ≡ isString xs
 
 -- An object is tried as a string: its contents come to `o`, and `isOne` tells of their items whether it is one. They are accepted,
 -- and have room if it is.
-pub record TextRoom (o : Outcome) (isOne : Items → Bool) (base gap len : ℕ) : Type 0 where
+pub record TextRoom (o : Outcome) (isOne : Items → Bool) (base gap : ℕ) (t : List ℕ) : Type 0 where
   pub items : Items
   pub said : o ≡ says items
-  pub room : isOne items ≡ true → (3 ≤ gap) × (gap + (base + length (textWords items)) ≤ len) × (base + length (textWords items) ≤ 16384)
+  pub room : isOne items ≡ true → (3 ≤ gap) × (gap + (base + length (textWords items)) ≤ length t) × (base + length (textWords items) ≤ wordLimit)
 
 -- a string is laid out, r one more than its data words
 pub record TextLaid (items : Items) (base gap : ℕ) (t t′ : List ℕ) (r : ℕ) : Type 0 where
   pub words-are : r ≡ suc (length (textWords items))
   pub front-is : take gap t′ ≡ over (9 ∷ count items ∷ base ∷ []) (take gap t)
-  pub back-is : drop gap t′ ≡ over (take base (drop gap t) ++ textWords items) (drop gap t)
+  pub back-is : drop gap t′ ≡ overAt base (textWords items) (drop gap t)
 
 -- or it is none, and nothing is written
 pub record Tried (isOne : Bool) (items : Items) (base gap : ℕ) (t t′ : List ℕ) (r : ℕ) : Type 0 where

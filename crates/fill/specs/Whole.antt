@@ -1,12 +1,13 @@
 -- The whole table of a message.
-use Prim.Native.Nat.{ℕ, _+_, _≤_}
+use Prim.Native.Nat.{ℕ, _≤_}
 use mathlib.Core.Path.{_≡_}
 use mathlib.Core.List.{List, _++_}
-use lib.ListN.{length, take}
+use lib.ListN.{length}
 use Rattle.format.specs.Messages.{Outcome, refused, says}
 use Rattle.format.specs.Refusals.{rowLimit, wordLimit}
 use Rattle.format.specs.Tables.{rows, count, dataWords, rowWords, tableOf, wordsNeeded}
 use Rattle.format.specs.Answers.{over}
+use Rattle.format.specs.Lent.{overAt}
 
 -- accepted, with so many rows and data words, within the limits, and the table is long enough
 unfoldable pub Roomy : Outcome → ℕ → ℕ → ℕ → Type 0
@@ -17,9 +18,9 @@ Roomy (says xs) r w len =
 
 -- rows and data words behind the header, and how many items are outermost
 unfoldable pub ItemsPut : Outcome → List ℕ → List ℕ → ℕ → Type 0
-unfolding count rowWords dataWords over
+unfolding count rowWords dataWords overAt
 ItemsPut (refused f) t t′ n = Unit {0}
-ItemsPut (says xs) t t′ n = (n ≡ count xs) × (t′ ≡ over (take 4 t ++ (rowWords 0 xs ++ dataWords xs)) t)
+ItemsPut (says xs) t t′ n = (n ≡ count xs) × (t′ ≡ overAt 4 (rowWords 0 xs ++ dataWords xs) t)
 
 -- the table lent, afterwards
 unfoldable pub laidOut : Outcome → List ℕ → List ℕ

@@ -2,12 +2,15 @@
 // and as plain words where they have no data words.
 ghost use mathlib.Core.Path.{_≡_};
 ghost use Prim.Native.Nat.{_+_, _*_, _%_, _≤_, _<_};
-ghost use mathlib.Core.List.{_++_};
 ghost use lib.ListN.{length, take};
 ghost use Rattle.format.specs.Answers.{over};
+ghost use Rattle.format.specs.Lent.{overAt};
 ghost use Rattle.fill.specs.Containers.{copiesOf};
-ghost use Rattle.fill.specs.Copies.{shift, moved, copies, again};
+ghost use Rattle.fill.specs.Copies.{shift, rebased, copies, again};
+ghost use Rattle.format.specs.Refusals.{wordLimit};
 use super::least::least;
+use format::kinds::BITS;
+use format::kinds::STRING;
 use wire::head::Wrap;
 
 // How often a container's elements stand there.
@@ -24,10 +27,10 @@ pub fn copies_of(w: Wrap) -> usize
 fn shifted(kind: u64, b: u64, words: usize) -> u64
     ensures { λ r. ⌜ r ≡ shift words kind b ⌝ }
 {
-    if kind == 2 {
+    if kind == BITS {
         return std::num::wrapping_add_u64(b, words as u64);
     }
-    if kind == 9 {
+    if kind == STRING {
         return std::num::wrapping_add_u64(b, words as u64);
     }
     b
@@ -54,7 +57,7 @@ fn copy_row(table: &mut [u64], k: usize)
 // The first n words of the table, which are whole rows, stand again from `to` on, their data `words` further on.
 fn copy_some(table: &mut [u64], to: usize, n: usize, words: usize)
     requires { ⌜ (n % 3 ≡ 0) × (n ≤ to) × (to + n ≤ length (now table)) ⌝ }
-    ensures { λ r. ⌜ now (table .exit) ≡ over (take to (now (table .entry)) ++ moved words (take n (now (table .entry)))) (now (table .entry)) ⌝ }
+    ensures { λ r. ⌜ now (table .exit) ≡ overAt to (rebased words (take n (now (table .entry)))) (now (table .entry)) ⌝ }
 {
     let mut i: usize = 0;
     while i < n {
@@ -71,8 +74,8 @@ fn copy_some(table: &mut [u64], to: usize, n: usize, words: usize)
 
 // The first rows of the table stand there k times, each copy's data `words` on from those of the copy before. Each round copies
 // all the copies that are there, or as many as are still due.
-fn copy_moved(table: &mut [u64], rows: usize, words: usize, k: usize)
-    requires { ⌜ (0 < k) × (3 * (k * rows) ≤ length (now table)) × (k * words ≤ 16384) ⌝ }
+fn copy_rebased(table: &mut [u64], rows: usize, words: usize, k: usize)
+    requires { ⌜ (0 < k) × (3 * (k * rows) ≤ length (now table)) × (k * words ≤ wordLimit) ⌝ }
     ensures { λ r. ⌜ now (table .exit) ≡ over (copies words k (take (3 * rows) (now (table .entry)))) (now (table .entry)) ⌝ }
 {
     let mut done: usize = 1;
@@ -86,7 +89,7 @@ fn copy_moved(table: &mut [u64], rows: usize, words: usize, k: usize)
 // The first n words of the table stand again from `to` on.
 pub fn copy_plain(table: &mut [u64], to: usize, n: usize)
     requires { ⌜ (n ≤ to) × (to + n ≤ length (now table)) ⌝ }
-    ensures { λ r. ⌜ now (table .exit) ≡ over (take to (now (table .entry)) ++ take n (now (table .entry))) (now (table .entry)) ⌝ }
+    ensures { λ r. ⌜ now (table .exit) ≡ overAt to (take n (now (table .entry))) (now (table .entry)) ⌝ }
 {
     let mut i: usize = 0;
     while i < n {
@@ -114,7 +117,7 @@ pub fn copy_words(table: &mut [u64], n: usize, k: usize)
 // The first rows of the table stand there k times, each copy's data `words` on from those of the copy before. Rows without data
 // words are copied as they stand.
 pub fn copy_rows(table: &mut [u64], rows: usize, words: usize, k: usize)
-    requires { ⌜ (0 < k) × (3 * (k * rows) ≤ length (now table)) × (k * words ≤ 16384) ⌝ }
+    requires { ⌜ (0 < k) × (3 * (k * rows) ≤ length (now table)) × (k * words ≤ wordLimit) ⌝ }
     ensures { λ r. ⌜ now (table .exit) ≡ over (copies words k (take (3 * rows) (now (table .entry)))) (now (table .entry)) ⌝ }
 {
     if words == 0 {
@@ -125,5 +128,5 @@ pub fn copy_rows(table: &mut [u64], rows: usize, words: usize, k: usize)
         copy_words(table, 3 * rows, k);
         return;
     }
-    copy_moved(table, rows, words, k);
+    copy_rebased(table, rows, words, k);
 }

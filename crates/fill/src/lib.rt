@@ -6,6 +6,7 @@ ghost use lib.ListN.{length};
 ghost use Rattle.format.specs.Messages.{outcome};
 ghost use Rattle.format.specs.Answers.{over};
 ghost use Rattle.fill.specs.Whole.{Roomy, ItemsPut, laidOut};
+ghost use Rattle.format.specs.Refusals.{byteLimit, rowLimit};
 
 mod bits;
 mod codes;
@@ -21,7 +22,7 @@ use walk::fill_run;
 
 // Rows and data words, behind the header; answers the number of outermost items.
 fn put_items(message: &[u8], table: &mut [u64], rows: usize, words: usize) -> usize
-    requires { ⌜ (length (now message) ≤ 65536) × Roomy (outcome (now message)) rows words (length (now table)) ⌝ }
+    requires { ⌜ (length (now message) ≤ byteLimit) × Roomy (outcome (now message)) rows words (length (now table)) ⌝ }
     ensures { λ r. ⌜ ItemsPut (outcome (now (message .entry))) (now (table .entry)) (now (table .exit)) r ⌝ }
 {
     if rows == 0 {
@@ -32,7 +33,7 @@ fn put_items(message: &[u8], table: &mut [u64], rows: usize, words: usize) -> us
 }
 
 fn put_header(table: &mut [u64], rows: usize, count: usize, words: usize)
-    requires { ⌜ (4 ≤ length (now table)) × (rows ≤ 16384) ⌝ }
+    requires { ⌜ (4 ≤ length (now table)) × (rows ≤ rowLimit) ⌝ }
     ensures { λ r. ⌜ now (table .exit) ≡ over (rows ∷ count ∷ (4 + 3 * rows) ∷ words ∷ []) (now (table .entry)) ⌝ }
 {
     table[0] = rows as u64;
@@ -43,7 +44,7 @@ fn put_header(table: &mut [u64], rows: usize, count: usize, words: usize)
 
 // The whole table of a message whose rows and data words have been counted.
 pub fn fill(message: &[u8], table: &mut [u64], rows: usize, words: usize)
-    requires { ⌜ (length (now message) ≤ 65536) × Roomy (outcome (now message)) rows words (length (now table)) ⌝ }
+    requires { ⌜ (length (now message) ≤ byteLimit) × Roomy (outcome (now message)) rows words (length (now table)) ⌝ }
     ensures { λ r. ⌜ now (table .exit) ≡ laidOut (outcome (now (message .entry))) (now (table .entry)) ⌝ }
 {
     let count = put_items(message, table, rows, words);

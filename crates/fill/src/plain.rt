@@ -7,8 +7,10 @@ ghost use Rattle.format.specs.Answers.{over};
 ghost use Rattle.format.specs.Bits.{wordsFor};
 ghost use Rattle.format.specs.Objects.{following};
 ghost use Rattle.fill.specs.Plain.{Apt, plainRows, plainWords, plainPlaced, sbitsHead, PlainPut};
+ghost use Rattle.format.specs.Refusals.{byteLimit};
 use super::bits::put_bits;
-use wire::bits::short_word;
+use format::kinds::BITS;
+use wire::bits::sbits_word;
 use wire::head::Head;
 use wire::integer::following_of;
 
@@ -31,7 +33,7 @@ pub fn put_row(table: &mut [u64], kind: u64, a: u64, b: u64)
 
 // The row of an object by its head; none where there is no item or its contents are still to be read.
 pub fn put_plain(h: Head, s: &[u8], base: usize, table: &mut [u64]) -> Placed
-    requires { ⌜ (length (now s) ≤ 65536) × Apt (now s) h × (length (plainRows (now s) base h) ≤ length (now table)) ⌝ }
+    requires { ⌜ (length (now s) ≤ byteLimit) × Apt (now s) h × (length (plainRows (now s) base h) ≤ length (now table)) ⌝ }
     ensures { λ r. ⌜ (r ≡ plainPlaced h) × (now (table .exit) ≡ over (plainRows (now (s .entry)) base h) (now (table .entry))) ⌝ }
 {
     match h {
@@ -39,12 +41,12 @@ pub fn put_plain(h: Head, s: &[u8], base: usize, table: &mut [u64]) -> Placed
             put_row(table, kind, 0, v);
             one_item(0, u)
         }
-        Head::Short(n, _, u) => {
-            put_row(table, 2, n as u64, base as u64);
+        Head::Sbits(n, _, u) => {
+            put_row(table, BITS, n as u64, base as u64);
             one_item((n + 63) / 64, u)
         }
-        Head::Long(_, n, u) => {
-            put_row(table, 2, n as u64, base as u64);
+        Head::Lbits(_, n, u) => {
+            put_row(table, BITS, n as u64, base as u64);
             one_item((n + 63) / 64, u)
         }
         _ => Placed {
@@ -70,16 +72,16 @@ pub fn one_item(words: usize, past: usize) -> Placed
 
 // The data words of an object by its head.
 pub fn put_data(h: Head, s: &[u8], table: &mut [u64])
-    requires { ⌜ (length (now s) ≤ 65536) × Apt (now s) h × (length (plainWords (now s) h) ≤ length (now table)) ⌝ }
+    requires { ⌜ (length (now s) ≤ byteLimit) × Apt (now s) h × (length (plainWords (now s) h) ≤ length (now table)) ⌝ }
     ensures { λ r. ⌜ now (table .exit) ≡ over (plainWords (now (s .entry)) h) (now (table .entry)) ⌝ }
 {
     match h {
-        Head::Short(n, w, _) => {
+        Head::Sbits(n, w, _) => {
             if n > 0 {
                 table[0] = w;
             }
         }
-        Head::Long(a, n, u) => put_bits(&s[a..u], n, table),
+        Head::Lbits(a, n, u) => put_bits(&s[a..u], n, table),
         _ => {}
     }
 }
@@ -90,10 +92,10 @@ pub fn put_sbits(b: u8, s: &[u8], n: usize, base: usize, gap: usize, table: &mut
     requires { ⌜ (n ≤ 63) × (following b ≤ length (now s)) × (3 ≤ gap) × (gap + (base + wordsFor n) ≤ length (now table)) ⌝ }
     ensures { λ r. ⌜ PlainPut (now (s .entry)) (sbitsHead b (now (s .entry)) n) base gap (now (table .entry)) (now (table .exit)) r ⌝ }
 {
-    put_row(table, 2, n as u64, base as u64);
+    put_row(table, BITS, n as u64, base as u64);
     if n == 0 {
         return one_item(0, following_of(b));
     }
-    table[gap + base] = short_word(b, s, n);
+    table[gap + base] = sbits_word(b, s, n);
     one_item(1, following_of(b))
 }

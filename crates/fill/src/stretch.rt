@@ -1,12 +1,17 @@
 // Stretches: the rows of many small objects, laid out in a tight loop.
 ghost use mathlib.Core.Path.{_≡_};
 ghost use Prim.Native.Nat.{_+_, _*_, _^_, _≤_, _<_};
-ghost use mathlib.Core.List.{_∷_, [], _++_};
-ghost use lib.ListN.{length, take};
-ghost use Rattle.format.specs.Answers.{over};
+ghost use mathlib.Core.List.{_∷_, []};
+ghost use lib.ListN.{length};
+ghost use Rattle.format.specs.Lent.{overAt};
 ghost use Rattle.fill.specs.Stretch.{Ranged, LongOf, Stretched};
 use super::least::least;
 use format::Class;
+use format::kinds::BOOL;
+use format::kinds::CHAR;
+use format::kinds::EMPTY;
+use format::kinds::INT;
+use format::kinds::XTRA;
 use format::signed::word_of;
 use format::tree::class_of;
 use wire::integer::following_of;
@@ -24,7 +29,7 @@ pub struct Stretch {
 // A row whose second word is 0, behind `at` words of the table.
 fn put_at(table: &mut [u64], at: usize, kind: u64, value: u64)
     requires { ⌜ at + 3 ≤ length (now table) ⌝ }
-    ensures { λ r. ⌜ now (table .exit) ≡ over (take at (now (table .entry)) ++ (kind ∷ 0 ∷ value ∷ [])) (now (table .entry)) ⌝ }
+    ensures { λ r. ⌜ now (table .exit) ≡ overAt at (kind ∷ 0 ∷ value ∷ []) (now (table .entry)) ⌝ }
 {
     table[at] = kind;
     table[at + 1] = 0;
@@ -34,7 +39,7 @@ fn put_at(table: &mut [u64], at: usize, kind: u64, value: u64)
 // One such row, of the item that is the byte at i alone.
 fn put_one(table: &mut [u64], at: usize, i: usize, kind: u64, value: u64) -> Stretch
     requires { ⌜ (at + 3 ≤ length (now table)) × (i + 1 < 2 ^ 64) ⌝ }
-    ensures { λ r. ⌜ (r ≡ record { upto = i + 1; rows = 1 }) × (now (table .exit) ≡ over (take at (now (table .entry)) ++ (kind ∷ 0 ∷ value ∷ [])) (now (table .entry))) ⌝ }
+    ensures { λ r. ⌜ (r ≡ record { upto = i + 1; rows = 1 }) × (now (table .exit) ≡ overAt at (kind ∷ 0 ∷ value ∷ []) (now (table .entry))) ⌝ }
 {
     put_at(table, at, kind, value);
     Stretch {
@@ -84,7 +89,7 @@ fn put_same(s: &[u8], i: usize, table: &mut [u64], used: usize, b: u8, k: usize)
         put_at(
             table,
             used + 3 * rows,
-            1,
+            INT,
             word_of(integer_of(&s[behind..], k)),
         );
         upto = behind + k;
@@ -101,7 +106,7 @@ fn put_class(s: &[u8], i: usize, table: &mut [u64], used: usize) -> Stretch
 {
     let b = s[i];
     if is_sinteger(b) {
-        let n = put_range(s, i, table, used, 0x80, 0xbf, 1);
+        let n = put_range(s, i, table, used, 0x80, 0xbf, INT);
         return Stretch {
             upto: i + n,
             rows: n,
@@ -113,15 +118,15 @@ fn put_class(s: &[u8], i: usize, table: &mut [u64], used: usize) -> Stretch
     let class = class_of(b);
     match class {
         Class::Char7 => {
-            let n = put_range(s, i, table, used, 0, 0x7f, 3);
+            let n = put_range(s, i, table, used, 0, 0x7f, CHAR);
             Stretch {
                 upto: i + n,
                 rows: n,
             }
         }
-        Class::Xtra => put_one(table, used, i, 6, (b % 4) as u64),
-        Class::Bool => put_one(table, used, i, 4, (b % 2) as u64),
-        Class::Empty => put_one(table, used, i, 5, 0),
+        Class::Xtra => put_one(table, used, i, XTRA, (b % 4) as u64),
+        Class::Bool => put_one(table, used, i, BOOL, (b % 2) as u64),
+        Class::Empty => put_one(table, used, i, EMPTY, 0),
         Class::Padding => {
             let upto = padding_end(s, i + 1);
             Stretch { upto, rows: 0 }

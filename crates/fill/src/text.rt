@@ -2,12 +2,14 @@
 ghost use mathlib.Core.Path.{_≡_};
 ghost use Prim.Native.Nat.{_+_, _≤_};
 ghost use lib.ListN.{length};
-ghost use Rattle.fill.specs.Texts.{spells, OnlyChars, TextFits, TextPut, Bytewise, TextIn, textOf, StringFits, StringPut, TextRoom, TextTried};
+ghost use Rattle.fill.specs.Texts.{spells, OnlyChars, TextFits, TextPut, Bytewise, TextIn, contentsSay, StringFits, StringPut, TextRoom, TextTried};
 ghost use Rattle.format.specs.Items.{isString};
+ghost use Rattle.format.specs.Refusals.{byteLimit};
 use super::codes::copy_codes;
 use super::codes::put_low;
 use super::copies::copies_of;
 use super::plain::put_row;
+use format::kinds::STRING;
 use wire::head::Head;
 use wire::head::head_of;
 use wire::letters::is_char;
@@ -33,7 +35,7 @@ pub fn spells(b: u8) -> bool
 // Whether a run of objects says only CHARs. It looks into repeats, never into other containers, and ends at the first element
 // that is no CHAR. The pattern of a repeat of none adds nothing.
 fn only_chars(depth: usize, s: &[u8]) -> bool
-    requires { ⌜ depth + length (now s) ≤ 65536 ⌝ }
+    requires { ⌜ depth + length (now s) ≤ byteLimit ⌝ }
     ensures { λ r. ⌜ OnlyChars depth (now (s .entry)) r ⌝ }
 {
     let mut i: usize = 0;
@@ -72,7 +74,7 @@ fn only_chars(depth: usize, s: &[u8]) -> bool
 // The codes of a run that says only CHARs, behind n others; answers how many there are then. A repeat's further copies are
 // copied from its first.
 fn put_chars(depth: usize, s: &[u8], n: usize, table: &mut [u64]) -> usize
-    requires { ⌜ (depth + length (now s) ≤ 65536) × TextFits depth (now s) n (length (now table)) ⌝ }
+    requires { ⌜ (depth + length (now s) ≤ byteLimit) × TextFits depth (now s) n (now table) ⌝ }
     ensures { λ r. ⌜ TextPut depth (now (s .entry)) n (now (table .entry)) (now (table .exit)) r ⌝ }
 {
     let mut i: usize = 0;
@@ -122,7 +124,7 @@ fn is_bytewise(raw: bool, c: &[u8]) -> bool
 
 // Whether contents are a string's: where each byte is a character they are, and a run is asked object by object.
 fn is_text(each: bool, depth: usize, c: &[u8]) -> bool
-    requires { ⌜ depth + length (now c) ≤ 65536 ⌝ }
+    requires { ⌜ depth + length (now c) ≤ byteLimit ⌝ }
     ensures { λ r. ⌜ TextIn each depth (now (c .entry)) r ⌝ }
 {
     if each {
@@ -133,7 +135,7 @@ fn is_text(each: bool, depth: usize, c: &[u8]) -> bool
 
 // The codes of a string whose contents are c, at the front of the table; answers how many.
 fn put_text(each: bool, depth: usize, c: &[u8], table: &mut [u64]) -> usize
-    requires { ⌜ (depth + length (now c) ≤ 65536) × StringFits each depth (now c) (length (now table)) ⌝ }
+    requires { ⌜ (depth + length (now c) ≤ byteLimit) × StringFits each depth (now c) (now table) ⌝ }
     ensures { λ r. ⌜ StringPut each depth (now (c .entry)) (now (table .entry)) (now (table .exit)) r ⌝ }
 {
     if each {
@@ -153,8 +155,8 @@ pub fn put_string(
     gap: usize,
     table: &mut [u64],
 ) -> usize
-    requires { ⌜ (depth + length (now c) ≤ 65536) × TextRoom (textOf raw depth (now c)) isString base gap (length (now table)) ⌝ }
-    ensures { λ r. ⌜ TextTried (textOf raw depth (now (c .entry))) isString base gap (now (table .entry)) (now (table .exit)) r ⌝ }
+    requires { ⌜ (depth + length (now c) ≤ byteLimit) × TextRoom (contentsSay raw depth (now c)) isString base gap (now table) ⌝ }
+    ensures { λ r. ⌜ TextTried (contentsSay raw depth (now (c .entry))) isString base gap (now (table .entry)) (now (table .exit)) r ⌝ }
 {
     let each = is_bytewise(raw, c);
     if !is_text(each, depth, c) {
@@ -162,7 +164,7 @@ pub fn put_string(
     }
     let at = gap + base;
     let n = put_text(each, depth, c, &mut table[at..]);
-    put_row(table, 9, n as u64, base as u64);
+    put_row(table, STRING, n as u64, base as u64);
     (n + 7) / 8 + 1
 }
 
@@ -185,14 +187,14 @@ pub fn put_few(
     gap: usize,
     table: &mut [u64],
 ) -> usize
-    requires { ⌜ (depth + length (now c) ≤ 65536) × TextRoom (textOf raw depth (now c)) isString base gap (length (now table)) ⌝ }
-    ensures { λ r. ⌜ TextTried (textOf raw depth (now (c .entry))) isString base gap (now (table .entry)) (now (table .exit)) r ⌝ }
+    requires { ⌜ (depth + length (now c) ≤ byteLimit) × TextRoom (contentsSay raw depth (now c)) isString base gap (now table) ⌝ }
+    ensures { λ r. ⌜ TextTried (contentsSay raw depth (now (c .entry))) isString base gap (now (table .entry)) (now (table .exit)) r ⌝ }
 {
     if few_bytewise(raw, c) {
         let size = c.len();
         let at = gap + base;
         put_low(c, 0, &mut table[at..]);
-        put_row(table, 9, size as u64, base as u64);
+        put_row(table, STRING, size as u64, base as u64);
         return (size + 7) / 8 + 1;
     }
     put_string(raw, depth, c, base, gap, table)

@@ -2,17 +2,18 @@
 ghost use mathlib.Core.Path.{_≡_};
 ghost use Prim.Native.Nat.{_+_, _≤_, _<_};
 ghost use lib.ListN.{length};
-ghost use Rattle.format.specs.Tables.{isText};
-ghost use Rattle.format.specs.Messages.{reads};
+ghost use mathlib.Core.Bool.{false};
+ghost use Rattle.wire.specs.Heads.{wrapBy};
 ghost use Rattle.fill.specs.Containers.{isStruc, textIn};
-ghost use Rattle.fill.specs.Shorts.{insideOf, groupOf, TextLike};
-ghost use Rattle.fill.specs.Texts.{TextRoom, TextTried};
+ghost use Rattle.fill.specs.Contents.{insideOf, TextLike};
+ghost use Rattle.fill.specs.Texts.{contentsSay, TextRoom, TextTried};
+ghost use Rattle.format.specs.Refusals.{byteLimit};
 use super::text::put_few;
 use super::text::put_string;
 use super::text::spells;
 use wire::head::Wrap;
-use wire::short::is_edt;
 use wire::short::is_string;
+use wire::short::wrap_by;
 
 // Whether a container can be a string: it is a STRUC or USTRUC.
 fn is_group(w: Wrap) -> bool
@@ -34,8 +35,8 @@ pub fn string_in(
     gap: usize,
     table: &mut [u64],
 ) -> usize
-    requires { ⌜ (depth + length (now c) ≤ 65536) × TextRoom (reads depth (now c)) (textIn w) base gap (length (now table)) ⌝ }
-    ensures { λ r. ⌜ TextTried (reads depth (now (c .entry))) (textIn w) base gap (now (table .entry)) (now (table .exit)) r ⌝ }
+    requires { ⌜ (depth + length (now c) ≤ byteLimit) × TextRoom (contentsSay false depth (now c)) (textIn w) base gap (now table) ⌝ }
+    ensures { λ r. ⌜ TextTried (contentsSay false depth (now (c .entry))) (textIn w) base gap (now (table .entry)) (now (table .exit)) r ⌝ }
 {
     if is_group(w) {
         return put_string(false, depth, c, base, gap, table);
@@ -48,7 +49,7 @@ pub fn string_in(
 fn text_like(b: u8, c: &[u8]) -> bool
     ensures { λ r. ⌜ TextLike b (now (c .entry)) r ⌝ }
 {
-    if is_edt(b) {
+    if !is_group(wrap_by(b)) {
         return false;
     }
     if is_string(b) {
@@ -69,8 +70,8 @@ pub fn short_string(
     gap: usize,
     table: &mut [u64],
 ) -> usize
-    requires { ⌜ (depth + length (now c) < 65536) × TextRoom (insideOf depth b (now c)) (isText (groupOf b)) base gap (length (now table)) ⌝ }
-    ensures { λ r. ⌜ TextTried (insideOf depth b (now (c .entry))) (isText (groupOf b)) base gap (now (table .entry)) (now (table .exit)) r ⌝ }
+    requires { ⌜ (depth + length (now c) < byteLimit) × TextRoom (insideOf depth b (now c)) (textIn (wrapBy b)) base gap (now table) ⌝ }
+    ensures { λ r. ⌜ TextTried (insideOf depth b (now (c .entry))) (textIn (wrapBy b)) base gap (now (table .entry)) (now (table .exit)) r ⌝ }
 {
     if text_like(b, c) {
         return put_few(is_string(b), depth + 1, c, base, gap, table);

@@ -5,10 +5,10 @@ ghost use Prim.Native.Nat.{_+_, _*_, _≤_, _<_};
 ghost use lib.ListN.{length};
 ghost use Rattle.format.specs.Answers.{over};
 ghost use mathlib.Core.List.{_∷_, []};
-ghost use Rattle.fill.specs.Containers.{ownWords, closedGroup, Closable, closedTable, closedPlaced};
-ghost use Rattle.fill.specs.Shorts.{groupOf, ShortFits, ShortFilled};
-ghost use Rattle.format.specs.Tables.{boxKind};
+ghost use Rattle.fill.specs.Containers.{ownWords, kindOf, closedGroup, Closable, closedTable, closedSums};
+ghost use Rattle.fill.specs.Contents.{ShortFits, ShortFilled};
 ghost use Rattle.fill.specs.Walks.{RunFits, ObjectFits, RunFilled, ObjectFilled};
+ghost use Rattle.format.specs.Refusals.{byteLimit};
 use super::copies::copies_of;
 use super::copies::copy_rows;
 use super::copies::copy_words;
@@ -22,13 +22,15 @@ use super::stretch::put_stretch;
 use super::text::put_string;
 use super::tries::short_string;
 use super::tries::string_in;
+use format::kinds::EDT;
+use format::kinds::STRUC;
 use format::tree::is_non_atomic;
-use wire::bits::short_bits;
+use wire::bits::sbits_of;
 use wire::head::Head;
 use wire::head::Wrap;
 use wire::head::head_of;
-use wire::short::is_edt;
 use wire::short::short_size;
+use wire::short::wrap_by;
 
 // What the walk of a run wrote.
 pub struct Filled {
@@ -47,40 +49,58 @@ fn own_words(w: Wrap) -> usize
     }
 }
 
+// The kind of the row of a container that is no string; a REPEAT has none.
+fn kind_of(w: Wrap) -> u64
+    ensures { λ r. ⌜ r ≡ kindOf w ⌝ }
+{
+    match w {
+        Wrap::Edt => EDT,
+        _ => STRUC,
+    }
+}
+
 // The row of a container whose elements are written behind it.
-fn put_group(kind: u64, f: Filled, past: usize, table: &mut [u64]) -> Placed
+fn put_group(kind: u64, f: Filled, table: &mut [u64]) -> Filled
     requires { ⌜ 3 * (f .rows + 1) ≤ length (now table) ⌝ }
-    ensures { λ r. ⌜ (r ≡ closedGroup f past) × (now (table .exit) ≡ over (kind ∷ f .count ∷ f .rows ∷ []) (now (table .entry))) ⌝ }
+    ensures { λ r. ⌜ (r ≡ closedGroup f) × (now (table .exit) ≡ over (kind ∷ f .count ∷ f .rows ∷ []) (now (table .entry))) ⌝ }
 {
     put_row(table, kind, f.count as u64, f.rows as u64);
-    Placed {
+    Filled {
         rows: f.rows + 1,
         count: 1,
         words: f.words,
-        past,
     }
 }
 
 // What a container makes of its elements' rows, which stand behind the place of its own, and of their data words, which stand
 // from `at` on: its row, or the repeat's further copies.
-fn close(w: Wrap, f: Filled, past: usize, at: usize, table: &mut [u64]) -> Placed
+fn close(w: Wrap, f: Filled, at: usize, table: &mut [u64]) -> Filled
     requires { ⌜ Closable w f at (length (now table)) ⌝ }
-    ensures { λ r. ⌜ (r ≡ closedPlaced w f past) × (now (table .exit) ≡ closedTable w f at (now (table .entry))) ⌝ }
+    ensures { λ r. ⌜ (r ≡ closedSums w f) × (now (table .exit) ≡ closedTable w f at (now (table .entry))) ⌝ }
 {
     match w {
-        Wrap::Struc => put_group(7, f, past, table),
-        Wrap::Ustruc => put_group(7, f, past, table),
-        Wrap::Edt => put_group(8, f, past, table),
         Wrap::Repeat(k) => {
             copy_rows(table, f.rows, f.words, k);
             copy_words(&mut table[at..], f.words, k);
-            Placed {
+            Filled {
                 rows: k * f.rows,
                 count: k * f.count,
                 words: k * f.words,
-                past,
             }
         }
+        _ => put_group(kind_of(w), f, table),
+    }
+}
+
+// What the walk wrote of a container, whose object has so many bytes past its type-byte.
+fn with_past(f: Filled, past: usize) -> Placed
+    ensures { λ r. ⌜ r ≡ record { rows = f .rows; count = f .count; words = f .words; past = past } ⌝ }
+{
+    Placed {
+        rows: f.rows,
+        count: f.count,
+        words: f.words,
+        past,
     }
 }
 
@@ -88,10 +108,10 @@ fn close(w: Wrap, f: Filled, past: usize, at: usize, table: &mut [u64]) -> Place
 // has a byte before s, so that `depth` and the bytes left stay within a message's length. As in the scan, an
 // SBITSTR is tried first.
 fn fill_object(depth: usize, b: u8, s: &[u8], base: usize, gap: usize, table: &mut [u64]) -> Placed
-    requires { ⌜ (depth + length (now s) < 65536) × ObjectFits depth b (now s) base gap (length (now table)) ⌝ }
+    requires { ⌜ (depth + length (now s) < byteLimit) × ObjectFits depth b (now s) base gap (now table) ⌝ }
     ensures { λ r. ⌜ ObjectFilled depth b (now (s .entry)) base gap (now (table .entry)) (now (table .exit)) r ⌝ }
 {
-    let bits = short_bits(b, s);
+    let bits = sbits_of(b, s);
     if bits > 0 {
         return put_sbits(b, s, bits - 1, base, gap, table);
     }
@@ -115,7 +135,7 @@ fn fill_object(depth: usize, b: u8, s: &[u8], base: usize, gap: usize, table: &m
             // The elements' rows go straight into the part of the table behind the container's own row.
             let own = own_words(w);
             let f = fill_run(depth + 1, &s[a..e], base, gap - own, &mut table[own..]);
-            close(w, f, e, gap + base, table)
+            with_past(close(w, f, gap + base, table), e)
         }
         Head::Text(a, n) => {
             let e = a + n;
@@ -130,16 +150,9 @@ fn fill_object(depth: usize, b: u8, s: &[u8], base: usize, gap: usize, table: &m
     }
 }
 
-// The kind of the row of a container that is no string, by its type-byte.
-fn kind_of(b: u8) -> u64
-    ensures { λ r. ⌜ r ≡ boxKind (groupOf b) ⌝ }
-{
-    if is_edt(b) { 8 } else { 7 }
-}
-
 // A container or a string whose size is one byte; c are its contents.
 fn fill_short(depth: usize, b: u8, c: &[u8], base: usize, gap: usize, table: &mut [u64]) -> Filled
-    requires { ⌜ (depth + length (now c) < 65536) × ShortFits depth b (now c) base gap (length (now table)) ⌝ }
+    requires { ⌜ (depth + length (now c) < byteLimit) × ShortFits depth b (now c) base gap (now table) ⌝ }
     ensures { λ r. ⌜ ShortFilled depth b (now (c .entry)) base gap (now (table .entry)) (now (table .exit)) r ⌝ }
 {
     let words = short_string(depth, b, c, base, gap, table);
@@ -151,18 +164,13 @@ fn fill_short(depth: usize, b: u8, c: &[u8], base: usize, gap: usize, table: &mu
         };
     }
     let f = fill_run(depth + 1, c, base, gap - 3, &mut table[3..]);
-    put_row(table, kind_of(b), f.count as u64, f.rows as u64);
-    Filled {
-        rows: f.rows + 1,
-        count: 1,
-        words: f.words,
-    }
+    put_group(kind_of(wrap_by(b)), f, table)
 }
 
 // A run of objects. Of the non-atomic objects those with a size of one byte are tried first, of the others stretches; what is
 // neither goes by its head.
 pub fn fill_run(depth: usize, s: &[u8], base: usize, gap: usize, table: &mut [u64]) -> Filled
-    requires { ⌜ (depth + length (now s) ≤ 65536) × RunFits depth (now s) base gap (length (now table)) ⌝ }
+    requires { ⌜ (depth + length (now s) ≤ byteLimit) × RunFits depth (now s) base gap (now table) ⌝ }
     ensures { λ r. ⌜ RunFilled depth (now (s .entry)) base gap (now (table .entry)) (now (table .exit)) r ⌝ }
 {
     let zero: usize = 0;

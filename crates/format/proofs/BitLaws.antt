@@ -20,6 +20,11 @@ pub bit-isOne : (v : ℕ) → v < 2 → bit (isOne v) ≡ v
 unfolding isOne bit
 bit-isOne v h = byEq (λ t. bit t ≡ v) v 1 (λ e. sym e) (λ n. split v 1 (λ l. omega arith) (λ g. absurd (n (omega arith))))
 
+pub bit-lt : (b : Bool) → bit b < 2
+unfolding bit
+bit-lt true = omega arith
+bit-lt false = omega arith
+
 pub bits-length : (w n : ℕ) → length (bitsOf w n) ≡ w
 unfolding bitsOf
 bits-length zero n = refl

@@ -108,6 +108,19 @@ unfolding both
 both-true a b p q = rw p q
 
 -- a number test that came out true
+-- a first test that decides both
+pub both-yes : (a b : Bool) → a ≡ true → both a b ≡ b
+unfolding both
+both-yes a b e = rw e refl
+
+pub both-no : (a b : Bool) → a ≡ false → both a b ≡ false
+unfolding both
+both-no a b e = rw e refl
+
+-- a test cannot come out both ways
+pub clash : {X : Type 0} (b : Bool) → b ≡ true → b ≡ false → X
+clash b t f = let z : _≡_ {A = ℕ} 0 1 = cc in absurd (omega arith)
+
 pub true-lt : (a b : ℕ) → ltb a b ≡ true → a < b
 true-lt a b e = ltb→lt a b (rw e tt)
 

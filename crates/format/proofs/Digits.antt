@@ -125,20 +125,6 @@ width-mono a b h = width-least a (width b) (width-pos b) (omega (arith, width-fi
 pub width-one : (n : ℕ) → n < 256 → width n ≡ 1
 width-one n h = omega (arith, width-pos n, width-least n 1 (omega arith) h)
 
-pub width-step : (n : ℕ) → 256 ≤ n → width n ≡ suc (width (n / 256))
-width-step n h = go (width n) refl
-  where
-    go : (w : ℕ) → width n ≡ w → w ≡ suc (width (n / 256))
-    go zero e = absurd (omega (arith, width-pos n))
-    go (suc zero) e =
-        let f : n < 256 ^ 1 = rw e at (width-fits n) in
-        absurd (omega arith)
-    go (suc (suc w)) e =
-        let f : n < 256 ^ suc (suc w) = rw e at (width-fits n) in
-        let a : width (n / 256) ≤ suc w = width-least (n / 256) (suc w) (omega arith) (omega (arith, pow-suc 256 (suc w))) in
-        let b : width n ≤ suc (width (n / 256)) = width-least n (suc (width (n / 256))) (omega arith) (omega (arith, width-fits (n / 256), pow-suc 256 (width (n / 256)))) in
-        omega arith
-
 -- ---- two's complement
 pub twos-lt : (k : ℕ) (z : ℤ) → twos k z < 256 ^ k
 unfolding twos

@@ -1,13 +1,17 @@
 -- Every line marked P and every message that an ask names holds, by computing. Assumes nothing.
-use mathlib.Core.Path.{refl}
+use mathlib.Core.Path.{_≡_, refl}
 use Rattle.format.specs.Messages.{outcome}
 use Rattle.format.specs.Answers.{reading, writing, normalising}
 use Rattle.format.specs.Examples.{examples, hugeRepeat, strucFirst, cuts, Holds, All}
 
+-- what computes to itself on both sides, four times
+four : {A B C D : Type 0} {a : A} {b : B} {c : C} {d : D} → (a ≡ a) × (b ≡ b) × (c ≡ c) × (d ≡ d)
+four = (refl, refl, refl, refl)
+
 pub examples-hold : All examples
 unfolding examples outcome reading writing normalising
 examples-hold =
-    ((refl, refl, refl, refl), ((refl, refl, refl, refl), ((refl, refl, refl, refl), ((refl, refl, refl, refl), ((refl, refl, refl, refl), ((refl, refl, refl, refl), ((refl, refl, refl, refl), ((refl, refl, refl, refl), ((refl, refl, refl, refl), ((refl, refl, refl, refl), ((refl, refl, refl, refl), ((refl, refl, refl, refl), (λ t. refl, (λ t. refl, ((refl, refl, refl, refl), tt)))))))))))))))
+    (four, (four, (four, (four, (four, (four, (four, (four, (four, (four, (four, (four, (λ t. refl, (λ t. refl, (four, tt)))))))))))))))
 
 pub huge-repeat-holds : Holds hugeRepeat
 unfolding hugeRepeat outcome reading writing normalising

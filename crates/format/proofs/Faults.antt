@@ -7,9 +7,10 @@ use native.Mathlib.Omega.{arith}
 use lib.ListN.{length}
 use Rattle.format.specs.declared.fault.Fault.{Fault}
 use Rattle.format.specs.Refusals.{wants, byteLimit}
-use Rattle.format.specs.Objects.{past}
+use Rattle.format.specs.Objects.{pastEnd}
 use Rattle.format.specs.Messages.{refused, reads, outcome}
-use Rattle.format.proofs.Bounds.{Lacking, RunWithin, reads-within}
+use Rattle.format.proofs.HeadCases.{Lacking}
+use Rattle.format.proofs.Bounds.{RunWithin, reads-within}
 
 -- two refusals for the want of bytes, of which as many are told
 pub wants-alike : (n k j : ℕ) → min k byteLimit ≡ min j byteLimit → wants n k ≡ wants n j
@@ -21,7 +22,7 @@ within d s f e = subst (RunWithin d (length s)) e (reads-within d s)
 
 -- inside a container 2 is not given
 pub inner-number : (d : ℕ) (s : List ℕ) (f : Fault) → reads (suc d) s ≡ refused f → 2 < f .number
-unfolding past
+unfolding pastEnd
 inner-number d s f e = go (within (suc d) s f e .1)
   where
     go : Lacking (suc d) f → 2 < f .number
@@ -36,7 +37,7 @@ module _ (m : List ℕ) (f : Fault) (e : outcome m ≡ refused f) where
 
   -- one of the numbers, at one of its bytes
   pub fault-inside : (2 ≤ f .number) × (f .number ≤ 9) × (f .place < length m)
-  unfolding past
+  unfolding pastEnd
   fault-inside = go (lacks .1)
     where
       go : Lacking 0 f → (2 ≤ f .number) × (f .number ≤ 9) × (f .place < length m)
@@ -52,7 +53,7 @@ module _ (m : List ℕ) (f : Fault) (e : outcome m ≡ refused f) where
 
   -- bytes are missing exactly with 2 and 3
   pub missing-with : (0 < f .missing) ↔ ((f .number ≡ 2) ⊎ (f .number ≡ 3))
-  unfolding past
+  unfolding pastEnd
   missing-with = go (lacks .1)
     where
       two : (n : ℕ) → 2 ≤ n → n ≤ 3 → (n ≡ 2) ⊎ (n ≡ 3)

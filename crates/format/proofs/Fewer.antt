@@ -130,9 +130,9 @@ same-edt (group edt c xs) = first-int EDT xs
 
 -- ---- whole messages
 -- the same, unless it was refused with 8
-abbrev pub Kept : Outcome → Outcome → Type 0
-Kept (refused f) o = f .number ≢ several-kinds → refused f ≡ o
-Kept (says xs) o = says xs ≡ o
+abbrev pub KeptOutcome : Outcome → Outcome → Type 0
+KeptOutcome (refused f) o = f .number ≢ several-kinds → refused f ≡ o
+KeptOutcome (says xs) o = says xs ≡ o
 
 abbrev KeptObject : Object → Object → Type 0
 KeptObject (bad f) o = f .number ≢ several-kinds → bad f ≡ o
@@ -150,28 +150,28 @@ kept-closing as-ustruc u xs =
 kept-closing as-edt u xs = rw (same-edt xs) (kept-same (closing as-edt u xs))
 kept-closing (repeated k) u xs = refl
 
-kept-around : (w : Wrap) (h n : ℕ) (o p : Outcome) → Kept o p → KeptObject (aroundBefore w h n o) (around w h n p)
+kept-around : (w : Wrap) (h n : ℕ) (o p : Outcome) → KeptOutcome o p → KeptObject (aroundBefore w h n o) (around w h n p)
 unfolding aroundBefore around further
 kept-around w h n (refused f) p e = λ q. ap (around w h n) (e q)
 kept-around w h n (says xs) p e = subst (λ o. KeptObject (closingBefore w (h + n) xs) (around w h n o)) e (kept-closing w (h + n) xs)
 
-kept-object : (before now : ℕ → ℕ → Outcome) (x : Head) → ((h n : ℕ) → Kept (before h n) (now h n)) → KeptObject (objectBefore before x) (object now x)
+kept-object : (before now : ℕ → ℕ → Outcome) (x : Head) → ((h n : ℕ) → KeptOutcome (before h n) (now h n)) → KeptObject (objectBefore before x) (object now x)
 unfolding objectBefore object
 kept-object before now (stop f) e = λ n. refl
 kept-object before now (gives xs u) e = refl
 kept-object before now (opens w h n) e = kept-around w h n (before h n) (now h n) (e h n)
 
-kept-onto : (xs : Items) (n : ℕ) (o p : Outcome) → Kept o p → Kept (onto xs n o) (onto xs n p)
+kept-onto : (xs : Items) (n : ℕ) (o p : Outcome) → KeptOutcome o p → KeptOutcome (onto xs n o) (onto xs n p)
 unfolding onto further
 kept-onto xs n (refused f) p e = λ q. ap (onto xs n) (e q)
 kept-onto xs n (says ys) p e = ap (onto xs n) e
 
-kept-next : (o p : Object) (before now : ℕ → Outcome) → KeptObject o p → ((u : ℕ) → Kept (before u) (now u)) → Kept (next o before) (next p now)
+kept-next : (o p : Object) (before now : ℕ → Outcome) → KeptObject o p → ((u : ℕ) → KeptOutcome (before u) (now u)) → KeptOutcome (next o before) (next p now)
 unfolding next
 kept-next (bad f) p before now e r = λ q. ap (λ x. next x now) (e q)
-kept-next (got xs u) p before now e r = subst (λ x. Kept (onto xs (1 + u) (before u)) (next x now)) e (kept-onto xs (1 + u) (before u) (now u) (r u))
+kept-next (got xs u) p before now e r = subst (λ x. KeptOutcome (onto xs (1 + u) (before u)) (next x now)) e (kept-onto xs (1 + u) (before u) (now u) (r u))
 
-kept-run : (f d : ℕ) (s : List ℕ) → Kept (runBefore f d s) (run f d s)
+kept-run : (f d : ℕ) (s : List ℕ) → KeptOutcome (runBefore f d s) (run f d s)
 unfolding runBefore run
 kept-run zero d s = refl
 kept-run (suc f) d [] = refl
@@ -181,7 +181,7 @@ kept-run (suc f) d (b ∷ s) =
     kept-next (objectBefore before (headOf d b s)) (object now (headOf d b s)) (λ u. runBefore f d (drop u s)) (λ u. run f d (drop u s))
     (kept-object before now (headOf d b s) (λ h n. kept-run f (suc d) (contents s h n))) (λ u. kept-run f d (drop u s))
 
-pub kept : (m : List ℕ) → Kept (outcomeBefore m) (outcome m)
+pub kept : (m : List ℕ) → KeptOutcome (outcomeBefore m) (outcome m)
 unfolding outcomeBefore outcome reads
 kept m = kept-run (length m) 0 m
 

@@ -20,34 +20,12 @@ use Rattle.format.specs.Classes.{classOf}
 use Rattle.format.specs.Objects as O
 use Rattle.format.specs.Messages.{Outcome, refused, says, Object, bad, got, closing, around, object, onto, next, reads, outcome}
 use Rattle.format.proofs.Choices.{ifLt-yes, ifLt-no, byLt, byLt₂, byEq, byPick}
-use Rattle.format.proofs.Counts.{join-assoc}
 use Rattle.format.proofs.Sizes.{SizeFits, size-fits}
-use Rattle.format.proofs.Steps.{reads-nil, reads-cons, objectAt}
+use Rattle.format.specs.Runs.{objectAt}
+use Rattle.format.proofs.Steps.{reads-nil, reads-cons}
+use Rattle.format.proofs.Runs.{further-further, onto-none, onto-onto}
 use Rattle.format.proofs.Bounds.{HeadWithin, head-within, ObjectWithin, at-within}
 use Rattle.format.proofs.Faults.{inner-number}
-
--- ---- faults moved outward
--- a fault at another place
-abbrev elsewhere : Fault → ℕ → Fault
-elsewhere f p = record { number = f .number; place = p; missing = f .missing }
-
-further-none : (f : Fault) → f ≡ further 0 f
-unfolding further
-further-none f = ap (elsewhere f) (omega arith)
-
-further-further : (i n : ℕ) (f : Fault) → further i (further n f) ≡ further (i + n) f
-unfolding further
-further-further i n f = ap (elsewhere f) (omega arith)
-
-pub onto-none : (z : Outcome) → z ≡ onto end 0 z
-unfolding onto join
-onto-none (refused f) = ap refused (further-none f)
-onto-none (says ys) = refl
-
-pub onto-onto : (xs ys : Items) (i n : ℕ) (z : Outcome) → onto xs i (onto ys n z) ≡ onto (join xs ys) (i + n) z
-unfolding onto
-onto-onto xs ys i n (refused f) = ap refused (further-further i n f)
-onto-onto xs ys i n (says zs) = ap says (sym (join-assoc xs ys zs))
 
 -- ---- a refusal f with n bytes more behind: it stays, and is not 2; or it was for the want of bytes up to the end, by the number
 -- `why`, and wants n fewer. `Is` says what is met then.
@@ -91,7 +69,7 @@ contents-grown s t h n l =
 
 -- ---- a head: the same, unless the object wants bytes
 abbrev HeadGrown : ℕ → ℕ → O.Head → O.Head → Type 0
-HeadGrown d l (O.stop f) z = Grown (O.past d) l f (λ g. z ≡ O.stop g)
+HeadGrown d l (O.stop f) z = Grown (O.pastEnd d) l f (λ g. z ≡ O.stop g)
 HeadGrown d l (O.gives xs u) z = z ≡ O.gives xs u
 HeadGrown d l (O.opens w h n) z = z ≡ O.opens w h n
 
@@ -114,7 +92,7 @@ sbitstr-final (b ∷ p) = byEq Final b 0 (λ e. omega arith) (λ e. tt)
 counted-final : (why h : ℕ) (f : ℕ → ℕ → O.Head) (x : O.Leading) → 2 < why → ((k u : ℕ) → Final (f k u)) → Final (O.counted why h f x)
 unfolding O.counted
 counted-final why h f O.absent l g = l
-counted-final why h f (O.short p k) l g = omega arith
+counted-final why h f (O.cutInt p k) l g = omega arith
 counted-final why h f (O.found (pos k) u) l g = g k u
 counted-final why h f (O.found (negsuc k) u) l g = l
 
@@ -129,7 +107,7 @@ module _ (d : ℕ) (s t : List ℕ) where
         refl,
         λ m.
             let e : k - length (s ++ t) ≡ k - length s - length t = omega (arith, length-append s t) in
-            ifLt-yes (length (s ++ t)) k _ _ (omega (arith, length-append s t)) ∙ ap (λ j. O.stop (wants (O.past d) j)) e,
+            ifLt-yes (length (s ++ t)) k _ _ (omega (arith, length-append s t)) ∙ ap (λ j. O.stop (wants (O.pastEnd d) j)) e,
       ))
       (λ l. head-same d (length t) (f (take k s)) (O.fixed d k (s ++ t) f)
       (ifLt-no (length (s ++ t)) k _ _ (omega (arith, length-append s t)) ∙ ap f (take-append-le k s t l)) (g (take k s)))
@@ -151,7 +129,7 @@ module _ (d : ℕ) (s t : List ℕ) where
           refl,
           λ m.
               let q : n - (length (s ++ t) - h) ≡ n - (length s - h) - length t = omega (arith, length-append s t, i .0) in
-              ifLt-yes (length (s ++ t) - h) n _ _ (omega (arith, length-append s t, i .0)) ∙ ap (λ j. O.stop (wants (O.past d) j)) q,
+              ifLt-yes (length (s ++ t) - h) n _ _ (omega (arith, length-append s t, i .0)) ∙ ap (λ j. O.stop (wants (O.pastEnd d) j)) q,
         ))
         (λ l. head-same d (length t) (f h n) _ (ifLt-no (length (s ++ t) - h) n _ _ (omega (arith, length-append s t)) ∙ same h n (omega (arith, i .0))) (final h n)))
 
@@ -205,7 +183,7 @@ head-grown C.Reserved d b s t = inl (omega arith, refl)
 
 -- ---- an object: the same, unless it wants bytes
 abbrev ObjectGrown : ℕ → ℕ → Object → Object → Type 0
-ObjectGrown d l (bad f) z = Grown (O.past d) l f (λ g. z ≡ bad g)
+ObjectGrown d l (bad f) z = Grown (O.pastEnd d) l f (λ g. z ≡ bad g)
 ObjectGrown d l (got xs u) z = z ≡ got xs u
 
 -- a container closes as it did: what was refused inside it, or of its elements, is not 2
@@ -233,7 +211,7 @@ object-grown d b s t = go (O.headBy (classOf b) d b s) (O.headBy (classOf b) d b
   where
     go : (x z : O.Head) → HeadGrown d (length t) x z → HeadWithin d (length s) x → ObjectGrown d (length t) (object (inside d s) x) (object (inside d (s ++ t)) z)
     go (O.stop f) z k w =
-        grown-by (O.past d) (length t) f (λ g. z ≡ O.stop g) (λ g. object (inside d (s ++ t)) z ≡ bad g) (λ g e. ap (object (inside d (s ++ t))) e) k
+        grown-by (O.pastEnd d) (length t) f (λ g. z ≡ O.stop g) (λ g. object (inside d (s ++ t)) z ≡ bad g) (λ g e. ap (object (inside d (s ++ t))) e) k
     go (O.gives xs u) z k w = ap (object (inside d (s ++ t))) k
     go (O.opens v h n) z k w =
         around-same d (length t) v h n (inside d s h n) (object (inside d (s ++ t)) z) (λ f e. inner-number d (O.contents s h n) f e)
@@ -242,7 +220,7 @@ object-grown d b s t = go (O.headBy (classOf b) d b s) (O.headBy (classOf b) d b
 -- ---- a run: its items, and then what the bytes more come to; or its refusal, unless it wants bytes
 module _ (d : ℕ) (t : List ℕ) where
   abbrev RunGrown : List ℕ → Outcome → Type 0
-  RunGrown s (refused f) = Grown (O.past d) (length t) f (λ g. reads d (s ++ t) ≡ refused g)
+  RunGrown s (refused f) = Grown (O.pastEnd d) (length t) f (λ g. reads d (s ++ t) ≡ refused g)
   RunGrown s (says xs) = reads d (s ++ t) ≡ onto xs (length s) (reads d t)
 
   onto-grown : (b u : ℕ) (s : List ℕ) (ys : Items) (z : Outcome) → u ≤ length s → reads d (b ∷ (s ++ t)) ≡ onto ys (1 + u) (reads d (drop u s ++ t))
@@ -260,7 +238,7 @@ module _ (d : ℕ) (t : List ℕ) where
       → ((u : ℕ) → RunGrown (drop u s) (reads d (drop u s))) → RunGrown (b ∷ s) (next x (λ u. reads d (drop u s)))
   unfolding next
   next-grown b s (bad f) k w r =
-      grown-by (O.past d) (length t) f (λ g. objectAt d b (s ++ t) ≡ bad g) (λ g. reads d (b ∷ (s ++ t)) ≡ refused g)
+      grown-by (O.pastEnd d) (length t) f (λ g. objectAt d b (s ++ t) ≡ bad g) (λ g. reads d (b ∷ (s ++ t)) ≡ refused g)
       (λ g e. reads-cons d b (s ++ t) ∙ ap (λ o. next o (λ v. reads d (drop v (s ++ t)))) e) k
   next-grown b s (got ys u) k w r =
       onto-grown b u s ys (reads d (drop u s)) w
@@ -285,7 +263,7 @@ says-more m e xs q = subst (RunGrown 0 e m) q (reads-grown 0 e m)
 
 -- a refusal that is not 2 stays
 pub refused-more : (m e : List ℕ) (f : Fault) → outcome m ≡ refused f → f .number ≢ 2 → outcome (m ++ e) ≡ refused f
-unfolding outcome O.past
+unfolding outcome O.pastEnd
 refused-more m e f q n = go (subst (RunGrown 0 e m) q (reads-grown 0 e m))
   where
     go : Grown 2 (length e) f (λ g. reads 0 (m ++ e) ≡ refused g) → reads 0 (m ++ e) ≡ refused f
@@ -302,7 +280,7 @@ pub record Waits (n : ℕ) (f g : Fault) : Type 0 where
 -- with 2, and fewer bytes more than it tells, it is 2 at the same place again, and tells so many fewer
 pub waits : (m e : List ℕ) (f : Fault) → outcome m ≡ refused f → f .number ≡ 2 → length e < f .missing
     → (g : Fault) × (outcome (m ++ e) ≡ refused g) × Waits (length e) f g
-unfolding outcome O.past further
+unfolding outcome O.pastEnd further
 waits m e f q n l = go (subst (RunGrown 0 e m) q (reads-grown 0 e m))
   where
     told : (p k : ℕ) → f ≡ further p (wants 2 k) → (length e < k) × Waits (length e) f (further p (wants 2 (k - length e)))

@@ -95,7 +95,9 @@ leaf-pos : (l : Leaf) → 0 < length (normalLeaf l)
 unfolding normalLeaf normalInt linteger normalBits sbitstr
 leaf-pos (int (pos n)) = byLt (λ l. 0 < length l) n 64 {x = (0x80 + n) ∷ []} {y = linteger (pos n)} (λ h. omega arith) (λ h. omega arith)
 leaf-pos (int (negsuc n)) = omega arith
-leaf-pos (bits bs) = byLt (λ l. 0 < length l) (length bs) 64 {x = sbitstr (num (true ∷ bs))} {y = 0xc1 ∷ withSize (normalInt (pos (length bs)) ++ packed 8 (bytesFor (length bs)) bs)} (λ h. omega arith) (λ h. omega arith)
+leaf-pos (bits bs) =
+    byLt (λ l. 0 < length l) (length bs) 64 {x = sbitstr (num (true ∷ bs))}
+    {y = 0xc1 ∷ withSize (normalInt (pos (length bs)) ++ packed 8 (bytesFor (length bs)) bs)} (λ h. omega arith) (λ h. omega arith)
 leaf-pos (char c) = omega arith
 leaf-pos (bool b) = omega arith
 leaf-pos empty = omega arith

@@ -1,5 +1,5 @@
 -- No message without repeats is shorter than the normal form of what it says. Assumes nothing.
-use mathlib.Core.Path.{_≡_, refl, ap, _∙_, subst}
+use mathlib.Core.Path.{_≡_, refl, sym, ap, _∙_, subst}
 use Prim.Native.Nat.{ℕ, zero, suc, _+_, _-_, _^_, _≤_, _<_}
 use native.Mathlib.Omega.{arith}
 use mathlib.Core.Logic.{_≢_}
@@ -13,15 +13,14 @@ use Rattle.format.specs.Choice.{pick, both}
 use Rattle.format.specs.Numbers.{Bytes, val}
 use Rattle.format.specs.Bits.{num, spread, bytesFor, afterMarker}
 use Rattle.format.specs.declared.fault.Fault.{Fault}
-use Rattle.format.specs.Refusals.{bad-bits, bad-repeat}
 use Rattle.format.specs.Items.{Leaf, int, bits, char, empty, xtra, Group, struc, edt, Items, end, group, one, uniform, edtRule}
 use Rattle.format.specs.declared.Class.{Class}
 use Rattle.format.specs.declared.Class.the-variants.{Char7, Sinteger, Linteger, Sbitstr, Lbitstr, String, Struc, Ustruc, Edt, Repeat, Xtra, Bool as Boolean, Empty, Padding, Reserved}
 use Rattle.format.specs.Classes.{classOf}
-use Rattle.format.specs.Objects.{Wrap, as-struc, as-ustruc, as-edt, repeated, Head, stop, gives, opens, following, integer, lintegerHead, sbitstrHead, contents, lbitstr, lbitstrHead, characters, stringHead, groupHead, repeatHead, headBy, headOf}
+use Rattle.format.specs.Objects.{Wrap, as-struc, as-ustruc, as-edt, repeated, Head, stop, gives, opens, following, integer, contents, characters, groupHead, headBy, headOf}
 use Rattle.format.specs.Messages.{Outcome, refused, says, Object, bad, got, closing, around, object, onto, next, run, reads, outcome, isRepeat, plainObject, plainRun, withoutRepeats}
 use Rattle.format.specs.Normal.{normalSize, normalInt, normalLeaf, normal}
-use Rattle.format.proofs.Choices.{split, byEq, byPick, both-left, both-right}
+use Rattle.format.proofs.Choices.{split, byPick, both-left, both-right}
 use Rattle.format.proofs.Digits.{bytes-take, bytes-drop, pow-le, val-lt, val-pos}
 use Rattle.format.proofs.BitLaws.{spread-length, bytes-enough}
 use Rattle.format.proofs.Marker.{num-spread, marked, marker-ge}
@@ -29,8 +28,8 @@ use Rattle.format.proofs.Sizes.{size-mono, contents-length, contents-by
 use Rattle.format.proofs.TypeBytes.{InClass, in-class, following-range}
 use Rattle.format.proofs.ItemLaws.{length-end, length-leaf, length-group, length-join}
 use Rattle.format.proofs.Shortest.{small-shortest, integer-shortest, marked-shortest, counted-shortest}
-use Rattle.format.proofs.HeadCases.{by-fixed, by-container, by-sized, by-counted}
-use Rattle.format.proofs.ReadProper.{Says}
+use Rattle.format.proofs.HeadCases.{FaultWithin, by-linteger, by-sbitstr, by-lbitstr, by-string, by-group, by-repeat}
+use Rattle.format.proofs.ReadProper.{WhereSaid}
 
 -- ---- what one object gives by itself: within the bytes behind its type-byte, and not shorter than the normal form
 abbrev Brief : List ℕ → Head → Type 0
@@ -38,8 +37,8 @@ Brief s (stop f) = Unit {0}
 Brief s (gives xs u) = (u ≤ length s) × (length (normal xs) ≤ suc u)
 Brief s (opens w h n) = (h + n ≤ length s) × (length (normalSize n) ≤ h)
 
-brief-stop : (s : List ℕ) (f : Fault) → Brief s (stop f)
-brief-stop s f = tt
+brief-stop : (d : ℕ) (s : List ℕ) (f : Fault) → FaultWithin d (length s) f → Brief s (stop f)
+brief-stop d s f w = tt
 
 brief-leaf : (s : List ℕ) (l : Leaf) (u : ℕ) → u ≤ length s → length (normalLeaf l) ≤ suc u → Brief s (gives (one l) u)
 brief-leaf s l u h g = (h, omega (arith, length-leaf l end, length-end))
@@ -47,13 +46,6 @@ brief-leaf s l u h g = (h, omega (arith, length-leaf l end, length-end))
 -- a group whose elements fit, in the normal form, contents of n bytes behind a size of h bytes
 group-brief : (g : Group) (c : Items) (h n : ℕ) → length (normalSize n) ≤ h → length (normal c) ≤ n → length (normal (group g c end)) ≤ suc (h + n)
 group-brief g c h n a b = omega (arith, length-group g c end, length-end, size-mono (length (normal c)) n b)
-
-brief-linteger : (k : ℕ) (s : List ℕ) → Bytes s → 0 < k → k ≤ length s → Brief s (lintegerHead (take k s))
-unfolding lintegerHead normalLeaf
-brief-linteger k s b p h =
-    let e : length (take k s) ≡ k = length-take-le k s h in
-    brief-leaf s (int (integer (take k s))) (length (take k s)) (omega arith)
-    (integer-shortest (take k s) (bytes-take k s b) (omega arith))
 
 -- the bits behind a marker in up to eight bytes
 marked-brief : (b : ℕ) (p : List ℕ) → Bytes (b ∷ p) → b ≢ 0 → length (b ∷ p) ≤ 8
@@ -67,12 +59,6 @@ marked-brief b p h z l =
     let k : length bs < 64 = split (length bs) 64 (λ q. q) (λ q. absurd (omega (arith, marker-ge bs, pow-mono q, pow-le l))) in
     marked-shortest bs (length (b ∷ p)) k (omega arith) t
 
-brief-sbitstr : (s p : List ℕ) → Bytes p → length p ≤ 8 → length p ≤ length s → Brief s (sbitstrHead p)
-unfolding sbitstrHead
-brief-sbitstr s [] b l h = tt
-brief-sbitstr s (x ∷ p) b l h =
-    byEq (Brief s) x 0 (λ e. tt) (λ z. brief-leaf s (bits (afterMarker (spread 8 (x ∷ p)))) (length (x ∷ p)) h (marked-brief x p b z l))
-
 -- k bits in bytes that are exactly enough for them, behind a length of u bytes
 counted-brief : (s c : List ℕ) (h n k u : ℕ) → h + n ≤ length s → length (normalSize n) ≤ h → length c ≡ n → u ≤ length c
     → length (normalInt (pos k)) ≤ u → length (drop u c) ≡ bytesFor k → Brief s (gives (one (bits (take k (spread 8 (drop u c))))) (h + n))
@@ -84,58 +70,47 @@ counted-brief s c h n k u a b e f g q =
     let y : bytesFor (length bs) ≡ bytesFor k = ap bytesFor l in
     brief-leaf s (bits bs) (h + n) a (counted-shortest bs u n h i (omega (arith, length-drop u c)) b)
 
-brief-lbitstr : (d : ℕ) (s : List ℕ) → Bytes s → Brief s (lbitstrHead d s)
-unfolding lbitstrHead lbitstr
-brief-lbitstr d s b =
-    by-sized (Brief s) (brief-stop s) d s _
-    (λ h n a g. by-counted (Brief s) (brief-stop s) bad-bits h (contents s h n) _
-    (λ k u e f. byEq (Brief s) (length (drop u (contents s h n))) (bytesFor k)
-    (λ q. counted-brief s (contents s h n) h n k u a (g b) (contents-length s h n a) e (f (contents-bytes s h n b)) q) (λ z. tt)))
-
 characters-length : (s : List ℕ) → length (normal (characters s)) ≡ length s
 unfolding characters normal normalLeaf
 characters-length [] = refl
 characters-length (b ∷ s) = ap suc (characters-length s)
 
-brief-string : (d : ℕ) (s : List ℕ) → Bytes s → Brief s (stringHead d s)
-unfolding stringHead
-brief-string d s b =
-    by-container (Brief s) (brief-stop s) d _ (λ l. by-sized (Brief s) (brief-stop s) d s _
-    (λ h n a g.
-    let c = contents s h n in
-    (a, group-brief struc (characters c) h n (g b) (omega (arith, characters-length c, contents-length s h n a)))))
+module _ (d : ℕ) (s : List ℕ) (b : Bytes s) where
+  brief-linteger : (k : ℕ) → 0 < k → k ≤ length s → Brief s (gives (one (int (integer (take k s)))) (length (take k s)))
+  unfolding normalLeaf
+  brief-linteger k p h =
+      let e : length (take k s) ≡ k = length-take-le k s h in
+      brief-leaf s (int (integer (take k s))) (length (take k s)) (omega arith) (integer-shortest (take k s) (bytes-take k s b) (omega arith))
 
-brief-group : (w : Wrap) (d : ℕ) (s : List ℕ) → Bytes s → Brief s (groupHead w d s)
-unfolding groupHead
-brief-group w d s b = by-container (Brief s) (brief-stop s) d _ (λ l. by-sized (Brief s) (brief-stop s) d s (opens w) (λ h n a g. (a, g b)))
+  brief-sbitstr : (k x : ℕ) (p : List ℕ) → k ≤ 8 → k ≤ length s → take k s ≡ x ∷ p → x ≢ 0 → Brief s (gives (one (bits (afterMarker (spread 8 (x ∷ p))))) (length (x ∷ p)))
+  brief-sbitstr k x p l h e z =
+      let n : length (x ∷ p) ≡ k = ap length (sym e) ∙ length-take-le k s h in
+      brief-leaf s (bits (afterMarker (spread 8 (x ∷ p)))) (length (x ∷ p)) (omega arith) (marked-brief x p (rw e at (bytes-take k s b)) z (omega arith))
 
-brief-repeat : (d : ℕ) (s : List ℕ) → Bytes s → Brief s (repeatHead d s)
-unfolding repeatHead
-brief-repeat zero s b = tt
-brief-repeat (suc d) s b =
-    by-container (Brief s) (brief-stop s) (suc d) _ (λ l. by-sized (Brief s) (brief-stop s) (suc d) s _
-    (λ h n a g. by-counted (Brief s) (brief-stop s) bad-repeat h (contents s h n) _
-    (λ k u e f.
-    let c : length (contents s h n) ≡ n = contents-length s h n a in
-    (omega arith, omega (arith, g b, size-mono (n - u) n (omega arith))))))
+  brief-group : (w : Wrap) → Brief s (groupHead w d s)
+  brief-group w = by-group (Brief s) d s (brief-stop d s) w (λ l h n a g. (a, g b))
 
 brief-by : (c : Class) (d b : ℕ) (s : List ℕ) → Bytes s → InClass b c → Brief s (headBy c d b s)
 unfolding headBy
 brief-by Char7 d b s h r = brief-leaf s (char b) 0 (omega arith) (unfold normalLeaf in omega arith)
 brief-by Sinteger d b s h r = brief-leaf s _ 0 (omega arith) (unfold normalLeaf in small-shortest (b - 0x80) (omega arith))
-brief-by Linteger d b s h r =
-    by-fixed (Brief s) (brief-stop s) d (following b) s lintegerHead (brief-linteger (following b) s h (following-range b .0))
+brief-by Linteger d b s h r = by-linteger (Brief s) d s (brief-stop d s) b (brief-linteger d s h (following b) (following-range b .0))
 brief-by Sbitstr d b s h r =
-    by-fixed (Brief s) (brief-stop s) d (following b) s sbitstrHead
-    (λ g.
-    let e : length (take (following b) s) ≡ following b = length-take-le (following b) s g in
-    brief-sbitstr s (take (following b) s) (bytes-take (following b) s h) (omega (arith, following-range b .1)) (omega arith))
-brief-by Lbitstr d b s h r = brief-lbitstr d s h
-brief-by String d b s h r = brief-string d s h
-brief-by Struc d b s h r = brief-group as-struc d s h
-brief-by Ustruc d b s h r = brief-group as-ustruc d s h
-brief-by Edt d b s h r = brief-group as-edt d s h
-brief-by Repeat d b s h r = brief-repeat d s h
+    by-sbitstr (Brief s) d s (brief-stop d s) b (λ l x p e z. brief-sbitstr d s h (following b) x p (following-range b .1) l e z)
+brief-by Lbitstr d b s h r =
+    by-lbitstr (Brief s) d s (brief-stop d s)
+    (λ i n a g k u e f q. counted-brief s (contents s i n) i n k u a (g h) (contents-length s i n a) e (f (contents-bytes s i n h)) q)
+brief-by String d b s h r =
+    by-string (Brief s) d s (brief-stop d s)
+    (λ l i n a g. let c = contents s i n in (a, group-brief struc (characters c) i n (g h) (omega (arith, characters-length c, contents-length s i n a))))
+brief-by Struc d b s h r = brief-group d s h as-struc
+brief-by Ustruc d b s h r = brief-group d s h as-ustruc
+brief-by Edt d b s h r = brief-group d s h as-edt
+brief-by Repeat d b s h r =
+    by-repeat (Brief s) d s (brief-stop d s)
+    (λ l i n a g k u e f.
+    let c : length (contents s i n) ≡ n = contents-length s i n a in
+    (omega arith, omega (arith, g h, size-mono (n - u) n (omega arith))))
 brief-by Xtra d b s h r = brief-leaf s (xtra (b - 0xf8)) 0 (omega arith) (unfold normalLeaf in omega arith)
 brief-by Boolean d b s h r = brief-leaf s _ 0 (omega arith) (unfold normalLeaf in omega arith)
 brief-by Empty d b s h r = brief-leaf s empty 0 (omega arith) (unfold normalLeaf in omega arith)
@@ -156,7 +131,7 @@ abbrev Short : ℕ → Items → Type 0
 Short n xs = length (normal xs) ≤ n
 
 got-around : (w : Wrap) (h n : ℕ) (s : List ℕ) (after : ℕ → Bool) (o : Outcome) → isRepeat w ≡ false → after (h + n) ≡ true
-    → Brief s (opens w h n) → Says (Short n) o → Got s after (around w h n o)
+    → Brief s (opens w h n) → WhereSaid (Short n) o → Got s after (around w h n o)
 unfolding around closing isRepeat
 got-around w h n s after (refused f) p a g r = tt
 got-around as-struc h n s after (says xs) p a g r = (a, g .0, group-brief struc xs h n (g .1) r)
@@ -170,7 +145,7 @@ plain-parts true a b e = let z : _≡_ {A = ℕ} 0 1 = cc in absurd (omega arith
 plain-parts false a b e = (refl, both-left a b e, both-right a b e)
 
 got-object : (s : List ℕ) (inside : ℕ → ℕ → Outcome) (within : ℕ → ℕ → Bool) (after : ℕ → Bool) (x : Head) → Brief s x
-    → ((h n : ℕ) → within h n ≡ true → Says (Short (length (contents s h n))) (inside h n)) → plainObject within after x ≡ true
+    → ((h n : ℕ) → within h n ≡ true → WhereSaid (Short (length (contents s h n))) (inside h n)) → plainObject within after x ≡ true
     → Got s after (object inside x)
 unfolding object plainObject
 got-object s inside within after (stop f) g r p = tt
@@ -179,20 +154,20 @@ got-object s inside within after (opens w h n) g r p =
     let q = plain-parts (isRepeat w) (within h n) (after (h + n)) p in
     got-around w h n s after (inside h n) (q .0) (q .2) g (rw (contents-length s h n (g .0)) at (r h n (q .1)))
 
-short-onto : (u n : ℕ) (s : List ℕ) (xs : Items) (o : Outcome) → u ≤ length s → length (normal xs) ≤ suc u → Says (Short (length (drop u s))) o
-    → Says (Short (suc (length s))) (onto xs n o)
+short-onto : (u n : ℕ) (s : List ℕ) (xs : Items) (o : Outcome) → u ≤ length s → length (normal xs) ≤ suc u → WhereSaid (Short (length (drop u s))) o
+    → WhereSaid (Short (suc (length s))) (onto xs n o)
 unfolding onto
 short-onto u n s xs (refused f) h g r = tt
 short-onto u n s xs (says ys) h g r = omega (arith, length-join xs ys, length-drop u s)
 
 short-next : (s : List ℕ) (rest : ℕ → Outcome) (after : ℕ → Bool) (x : Object) → Got s after x
-    → ((u : ℕ) → after u ≡ true → Says (Short (length (drop u s))) (rest u)) → Says (Short (suc (length s))) (next x rest)
+    → ((u : ℕ) → after u ≡ true → WhereSaid (Short (length (drop u s))) (rest u)) → WhereSaid (Short (suc (length s))) (next x rest)
 unfolding next
 short-next s rest after (bad f) g r = tt
 short-next s rest after (got xs u) g r = short-onto u (1 + u) s xs (rest u) (g .1) (g .2) (r u (g .0))
 
 -- ---- what a run says
-short-run : (f d : ℕ) (s : List ℕ) → Bytes s → plainRun f d s ≡ true → Says (Short (length s)) (run f d s)
+short-run : (f d : ℕ) (s : List ℕ) → Bytes s → plainRun f d s ≡ true → WhereSaid (Short (length s)) (run f d s)
 unfolding run plainRun
 short-run zero d s b p = omega (arith, length-end)
 short-run (suc f) d [] b p = omega (arith, length-end)
@@ -207,4 +182,4 @@ short-run (suc f) d (x ∷ s) b p =
 
 pub minimal : (m : List ℕ) (xs : Items) → Bytes m → outcome m ≡ says xs → withoutRepeats m ≡ true → length (normal xs) ≤ length m
 unfolding outcome reads withoutRepeats
-minimal m xs b e p = subst (Says (Short (length m))) e (short-run (length m) 0 m b p)
+minimal m xs b e p = subst (WhereSaid (Short (length m))) e (short-run (length m) 0 m b p)

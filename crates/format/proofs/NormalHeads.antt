@@ -185,10 +185,10 @@ leaf-head d (xtra n) r o h =
 
 -- ---- groups
 -- the container that the normal form sends a group in
-unfoldable pub wrapOf : Group → Items → Wrap
+unfoldable pub normalWrap : Group → Items → Wrap
 unfolding pick isString
-wrapOf struc c = pick (isString c) as-ustruc as-struc
-wrapOf edt c = as-edt
+normalWrap struc c = pick (isString c) as-ustruc as-struc
+normalWrap edt c = as-edt
 
 container-at : (w : Wrap) (d : ℕ) (p r : List ℕ) → d < depthLimit
     → groupHead w d (withSize p ++ r) ≡ opens w (length (normalSize (length p))) (length p)
@@ -196,8 +196,8 @@ unfolding groupHead container
 container-at w d p r h = ifLt-yes d depthLimit _ _ h ∙ sized-at d p r (opens w)
 
 pub group-head : (d : ℕ) (g : Group) (c : Items) (p r : List ℕ) → d < depthLimit
-    → headOf d (groupByte g c) (withSize p ++ r) ≡ opens (wrapOf g c) (length (normalSize (length p))) (length p)
-unfolding groupByte wrapOf headBy
+    → headOf d (groupByte g c) (withSize p ++ r) ≡ opens (normalWrap g c) (length (normalSize (length p))) (length p)
+unfolding groupByte normalWrap headBy
 group-head d struc c p r h = go (isString c)
   where
     go : (t : Bool) → headOf d (pick t 0xc5 0xc2) (withSize p ++ r) ≡ opens (pick t as-ustruc as-struc) (length (normalSize (length p))) (length p)

@@ -4,21 +4,19 @@ use native.Mathlib.Omega.{arith}
 use mathlib.Core.Path.{_≡_, refl, sym, ap, _∙_, subst}
 use mathlib.Core.Bool.{true}
 use mathlib.Core.List.{List, [], _∷_, _++_}
-use lib.ListN.{length, take, drop}
+use lib.ListN.{length}
 use lib.Dec.{eqb}
-use Rattle.format.specs.Bits.{bytesFor}
 use Rattle.format.specs.declared.fault.Fault.{Fault}
-use Rattle.format.specs.Refusals.{bad-bits}
 use Rattle.format.specs.Items.{Group, struc, edt, Items, group, join, INT, BITS, CHAR, BOOL, EMPTY, XTRA, STRUC, EDT, leafKind, groupKind, kinds, allOf, alike, uniform, edtRule}
 use Rattle.format.specs.declared.Class.{Class}
 use Rattle.format.specs.declared.Class.the-variants as C
 use Rattle.format.specs.Classes.{classOf}
-use Rattle.format.specs.Objects.{Wrap, as-struc, as-ustruc, as-edt, repeated, Head, stop, gives, opens, following, lintegerHead, sbitstrHead, contents, lbitstr, lbitstrHead, stringHead, groupHead, headBy, headOf}
+use Rattle.format.specs.Objects.{Wrap, as-struc, as-ustruc, as-edt, repeated, Head, stop, gives, opens, contents, headBy, headOf}
 use Rattle.format.specs.Messages.{Outcome, refused, says, Object, bad, got, closing, around, object, reads}
-use Rattle.format.proofs.Choices.{byEq, byPick, true-eq, both-left, both-right}
+use Rattle.format.proofs.Choices.{byPick, true-eq, both-left, both-right}
 use Rattle.format.proofs.Counts.{kinds-join}
-use Rattle.format.proofs.HeadCases.{by-fixed, by-container, by-sized, by-counted}
-use Rattle.format.proofs.Steps.{objectAt}
+use Rattle.format.proofs.HeadCases.{FaultWithin, by-linteger, by-sbitstr, by-lbitstr, by-string, by-group}
+use Rattle.format.specs.Runs.{objectAt}
 
 -- ---- the class of an object tells the kind of its item, whatever it holds
 -- What a class tells of the kinds of the items that stand there. A REPEAT has no item of its own, and nothing is claimed of it;
@@ -60,9 +58,6 @@ abbrev Bad : Object → Type 0
 Bad (bad f) = Unit {0}
 Bad (got xs u) = ⊥
 
-stopped : (ks : List ℕ) (f : Fault) → HeadAs ks (stop f)
-stopped ks f = tt
-
 closing-as : (ks : List ℕ) (w : Wrap) (u : ℕ) (xs : Items) → ClosesAs ks w → GivesAs ks (closing w u xs)
 unfolding closing kinds groupKind
 closing-as ks as-struc u xs e = e
@@ -81,45 +76,25 @@ object-as ks inside (stop f) e = tt
 object-as ks inside (gives xs u) e = e
 object-as ks inside (opens w h n) e = around-as ks w h n (inside h n) e
 
-sbitstr-as : (p : List ℕ) → HeadAs (BITS ∷ []) (sbitstrHead p)
-unfolding sbitstrHead kinds leafKind
-sbitstr-as [] = tt
-sbitstr-as (b ∷ p) = byEq (HeadAs (BITS ∷ [])) b 0 (λ e. tt) (λ n. refl)
-
-lbitstr-as : (d : ℕ) (s : List ℕ) → HeadAs (BITS ∷ []) (lbitstrHead d s)
-unfolding lbitstrHead lbitstr kinds leafKind
-lbitstr-as d s =
-    by-sized (HeadAs (BITS ∷ [])) (stopped (BITS ∷ [])) d s _
-    (λ h n a b. by-counted (HeadAs (BITS ∷ [])) (stopped (BITS ∷ [])) bad-bits h (contents s h n) _
-    (λ k u e f. byEq (HeadAs (BITS ∷ [])) (length (drop u (contents s h n))) (bytesFor k) (λ q. refl) (λ q. tt)))
-
-string-as : (d : ℕ) (s : List ℕ) → HeadAs (STRUC ∷ []) (stringHead d s)
-unfolding stringHead kinds groupKind
-string-as d s =
-    by-container (HeadAs (STRUC ∷ [])) (stopped (STRUC ∷ [])) d _
-    (λ l. by-sized (HeadAs (STRUC ∷ [])) (stopped (STRUC ∷ [])) d s _ (λ h n a b. refl))
-
-group-as : (ks : List ℕ) (w : Wrap) (d : ℕ) (s : List ℕ) → ClosesAs ks w → HeadAs ks (groupHead w d s)
-unfolding groupHead
-group-as ks w d s e = by-container (HeadAs ks) (stopped ks) d _ (λ l. by-sized (HeadAs ks) (stopped ks) d s _ (λ h n a b. e))
-
 module _ (d b : ℕ) (s : List ℕ) (xs : Items) (u : ℕ) where
   -- by a head of which the kinds are known
   known : (c : Class) (ks : List ℕ) → HeadAs ks (headBy c d b s) → object (λ h n. reads (suc d) (contents s h n)) (headBy c d b s) ≡ got xs u → kinds xs ≡ ks
   known c ks e q = subst (GivesAs ks) q (object-as ks (λ h n. reads (suc d) (contents s h n)) (headBy c d b s) e)
 
+  stopped : (ks : List ℕ) (f : Fault) → FaultWithin d (length s) f → HeadAs ks (stop f)
+  stopped ks f w = tt
+
   by-class : (c : Class) → object (λ h n. reads (suc d) (contents s h n)) (headBy c d b s) ≡ got xs u → KindsBy c (kinds xs)
-  unfolding headBy lintegerHead kinds leafKind object
+  unfolding headBy kinds leafKind groupKind object
   by-class C.Char7 q = known C.Char7 (CHAR ∷ []) refl q
   by-class C.Sinteger q = known C.Sinteger (INT ∷ []) refl q
-  by-class C.Linteger q = known C.Linteger (INT ∷ []) (by-fixed (HeadAs (INT ∷ [])) (stopped (INT ∷ [])) d (following b) s lintegerHead (λ l. refl)) q
-  by-class C.Sbitstr q =
-      known C.Sbitstr (BITS ∷ []) (by-fixed (HeadAs (BITS ∷ [])) (stopped (BITS ∷ [])) d (following b) s sbitstrHead (λ l. sbitstr-as (take (following b) s))) q
-  by-class C.Lbitstr q = known C.Lbitstr (BITS ∷ []) (lbitstr-as d s) q
-  by-class C.String q = known C.String (STRUC ∷ []) (string-as d s) q
-  by-class C.Struc q = known C.Struc (STRUC ∷ []) (group-as (STRUC ∷ []) as-struc d s refl) q
-  by-class C.Ustruc q = known C.Ustruc (STRUC ∷ []) (group-as (STRUC ∷ []) as-ustruc d s refl) q
-  by-class C.Edt q = known C.Edt (EDT ∷ []) (group-as (EDT ∷ []) as-edt d s refl) q
+  by-class C.Linteger q = let ks = INT ∷ [] in known C.Linteger ks (by-linteger (HeadAs ks) d s (stopped ks) b (λ l. refl)) q
+  by-class C.Sbitstr q = let ks = BITS ∷ [] in known C.Sbitstr ks (by-sbitstr (HeadAs ks) d s (stopped ks) b (λ l x p e z. refl)) q
+  by-class C.Lbitstr q = let ks = BITS ∷ [] in known C.Lbitstr ks (by-lbitstr (HeadAs ks) d s (stopped ks) (λ h n a g k v e f z. refl)) q
+  by-class C.String q = let ks = STRUC ∷ [] in known C.String ks (by-string (HeadAs ks) d s (stopped ks) (λ l h n a g. refl)) q
+  by-class C.Struc q = let ks = STRUC ∷ [] in known C.Struc ks (by-group (HeadAs ks) d s (stopped ks) as-struc (λ l h n a g. refl)) q
+  by-class C.Ustruc q = let ks = STRUC ∷ [] in known C.Ustruc ks (by-group (HeadAs ks) d s (stopped ks) as-ustruc (λ l h n a g. refl)) q
+  by-class C.Edt q = let ks = EDT ∷ [] in known C.Edt ks (by-group (HeadAs ks) d s (stopped ks) as-edt (λ l h n a g. refl)) q
   by-class C.Repeat q = tt
   by-class C.Xtra q = known C.Xtra (XTRA ∷ []) refl q
   by-class C.Bool q = known C.Bool (BOOL ∷ []) refl q

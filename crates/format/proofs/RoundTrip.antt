@@ -8,18 +8,17 @@ use lib.ListN.{length, drop}
 use lib.Seq.{drop-at}
 use lib.Dec.{eqb}
 use Rattle.format.specs.Choice.{pick}
-use Rattle.format.specs.Numbers.{Bytes}
 use Rattle.format.specs.Refusals.{byteLimit, depthLimit}
 use Rattle.format.specs.Items.{Group, struc, edt, Items, end, leaf, group, one, join, CHAR, allOf, kinds, isString, alike, uniform, edtRule, properGroup, proper}
 use Rattle.format.specs.Objects.{contents}
 use Rattle.format.specs.Messages.{says, got, closing, around, object, onto, next, reads, outcome, isRepeat, plainObject, plainRun, withoutRepeats}
 use Rattle.format.specs.Normal.{normalSize, withSize, normalLeaf, groupByte, normal, depth}
 use Rattle.format.proofs.Choices.{pick-yes, both-left, both-right, both-true, byPick, true-eq}
-use Rattle.format.proofs.Steps.{reads-nil, objectAt, reads-cons}
+use Rattle.format.specs.Runs.{objectAt}
+use Rattle.format.proofs.Steps.{reads-nil, reads-cons}
 use Rattle.format.proofs.Sizes.{sized-contents, sized-length}
 use Rattle.format.proofs.ItemLaws.{leaf-proper, group-proper, length-leaf, length-group}
-use Rattle.format.proofs.ReadProper.{read-proper, read-depth}
-use Rattle.format.proofs.NormalHeads.{Heads, leaf-head, wrapOf, group-head}
+use Rattle.format.proofs.NormalHeads.{Heads, leaf-head, normalWrap, group-head}
 
 -- ---- the container of a group closes over its elements
 string-alike : (ks : List ℕ) → allOf CHAR ks ≡ true → alike ks ≡ true
@@ -29,8 +28,8 @@ string-alike (k ∷ ks) e =
     let q : k ≡ CHAR = true-eq k CHAR (both-left (eqb k CHAR) (allOf CHAR ks) e) in
     rw q (both-right (eqb k CHAR) (allOf CHAR ks) e)
 
-closes : (g : Group) (c : Items) (u : ℕ) → properGroup g c ≡ true → closing (wrapOf g c) u c ≡ got (group g c end) u
-unfolding wrapOf closing properGroup
+closes : (g : Group) (c : Items) (u : ℕ) → properGroup g c ≡ true → closing (normalWrap g c) u c ≡ got (group g c end) u
+unfolding normalWrap closing properGroup
 closes struc c u o =
     byPick (λ w. closing w u c ≡ got (group struc c end) u) (isString c)
     (λ e. pick-yes (uniform c) _ _ (unfold uniform isString in string-alike (kinds c) (unfold isString in e))) (λ e. refl)
@@ -56,7 +55,7 @@ reads-group d g c p r h o e =
     let s = withSize p ++ r in
     reads-cons d (groupByte g c) s
     ∙ ap (λ k. next (object (λ j n. reads (suc d) (contents s j n)) k) (λ u. reads d (drop u s))) (group-head d g c p r h)
-    ∙ ap (λ k. next (around (wrapOf g c) i (length p) k) (λ u. reads d (drop u s))) (ap (reads (suc d)) (sized-contents p r) ∙ e)
+    ∙ ap (λ k. next (around (normalWrap g c) i (length p) k) (λ u. reads d (drop u s))) (ap (reads (suc d)) (sized-contents p r) ∙ e)
     ∙ ap (λ k. next k (λ u. reads d (drop u s))) (closes g c (i + length p) o)
     ∙ ap (λ l. onto (group g c end) (1 + (i + length p)) (reads d l)) (sized-rest p r)
 
@@ -88,20 +87,9 @@ normal-inj xs ys ox oy dx dy l e =
     let q = round-trip ys oy dy (rw e at l) in
     cc
 
--- ---- of messages
--- what a message says is read again from its normal form
-pub renormal : (m : List ℕ) (xs : Items) → Bytes m → outcome m ≡ says xs → length (normal xs) ≤ byteLimit → outcome (normal xs) ≡ says xs
-renormal m xs b e l = round-trip xs (read-proper m xs b e) (read-depth m xs e) l
-
--- two messages with one normal form say the same items
-pub same-normal : (m n : List ℕ) (xs ys : Items) → Bytes m → Bytes n → outcome m ≡ says xs → outcome n ≡ says ys
-    → length (normal xs) ≤ byteLimit → normal xs ≡ normal ys → xs ≡ ys
-same-normal m n xs ys a b p q l e =
-    normal-inj xs ys (read-proper m xs a p) (read-proper n ys b q) (read-depth m xs p) (read-depth n ys q) l e
-
 -- ---- no repeats
-wrap-plain : (g : Group) (c : Items) → isRepeat (wrapOf g c) ≡ false
-unfolding isRepeat wrapOf
+wrap-plain : (g : Group) (c : Items) → isRepeat (normalWrap g c) ≡ false
+unfolding isRepeat normalWrap
 wrap-plain struc c = byPick (λ w. isRepeat w ≡ false) (isString c) (λ e. refl) (λ e. refl)
 wrap-plain edt c = refl
 

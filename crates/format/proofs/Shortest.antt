@@ -35,7 +35,7 @@ int-pos n =
     split n 64 (λ l. omega (arith, small-length n l))
     (λ g. unfold normalInt in rw (ifLt-no n 64) (omega (arith, large-length (pos n))))
 
-int-shortest : (k : ℕ) (z : ℤ) → 0 < k → 2 * mag z < 256 ^ k → length (normalInt z) ≤ suc k
+pub int-shortest : (k : ℕ) (z : ℤ) → 0 < k → 2 * mag z < 256 ^ k → length (normalInt z) ≤ suc k
 int-shortest k (pos n) p h =
     split n 64 (λ l. omega (arith, small-length n l))
     (λ g. unfold normalInt in rw (ifLt-no n 64) (omega (arith, large-length (pos n), width-least (2 * n) k p h)))

@@ -14,11 +14,11 @@ use Rattle.format.proofs.Choices.{ifLt-yes, ifLt-no, ifEq-yes, ifEq-no,
 use Rattle.format.proofs.Digits.{bytes-take, bytes-drop, be-length, be-val, be-bytes, val-lt, width-fits, width-least, width-pos, width-mono}
 
 -- ---- how long the normal size is
-size-zero : length (normalSize 0) ≡ 2
+pub size-zero : length (normalSize 0) ≡ 2
 unfolding normalSize
 size-zero = refl
 
-size-small : (n : ℕ) → n ≢ 0 → n ≤ 128 → length (normalSize n) ≡ 1
+pub size-small : (n : ℕ) → n ≢ 0 → n ≤ 128 → length (normalSize n) ≡ 1
 unfolding normalSize
 size-small n z h =
     rw (ifEq-no n 0)
@@ -27,7 +27,7 @@ size-small n z h =
     P : List ℕ → Type 0
     P p = length p ≡ 1
 
-size-large : (n : ℕ) → 128 < n → length (normalSize n) ≡ suc (width n)
+pub size-large : (n : ℕ) → 128 < n → length (normalSize n) ≡ suc (width n)
 unfolding normalSize
 size-large n h =
     let a : n ≢ 0 = omega arith in

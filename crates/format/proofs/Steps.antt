@@ -8,6 +8,7 @@ use lib.ListN.{length, drop, length-take, length-drop}
 use Rattle.format.specs.Items.{end}
 use Rattle.format.specs.Objects.{headOf, contents}
 use Rattle.format.specs.Messages.{Outcome, says, object, next, run, reads}
+use Rattle.format.specs.Runs.{objectAt}
 
 pub contents-fit : (s : List ℕ) (h n : ℕ) → length (contents s h n) ≤ length s
 unfolding contents
@@ -34,11 +35,6 @@ enough (suc f) (suc g) d (b ∷ s) p q =
 pub reads-nil : (d : ℕ) → reads d [] ≡ says end
 unfolding reads
 reads-nil d = refl
-
--- the object that a run starts with
-unfoldable pub objectAt : ℕ → ℕ → List ℕ → Rattle.format.specs.Messages.Object
-unfolding object headOf reads contents
-objectAt d b s = object (λ h n. reads (suc d) (contents s h n)) (headOf d b s)
 
 pub reads-cons : (d b : ℕ) (s : List ℕ) → reads d (b ∷ s) ≡ next (objectAt d b s) (λ u. reads d (drop u s))
 unfolding reads run objectAt

@@ -13,7 +13,7 @@ use Rattle.format.specs.Choice.{pick, ifEq, both}
 use Rattle.format.specs.Bits.{bitsOf, spread, packed, wordsFor}
 use Rattle.format.specs.Refusals.{rowLimit, wordLimit}
 use Rattle.format.specs.Items.{Leaf, int, bits, char, bool, empty, xtra, Group, struc, edt, Items, end, leaf, group, text, CHAR, leafKind, allOf, groupKind, kinds, isString, properLeaf, properGroup, proper}
-use Rattle.format.specs.Tables.{count, rows, isText, inWords, fromWords, leafWords, codes, letters, textWords, dataWords, groupWords, leafA, leafB, boxKind, rowKind, groupB, rowWords, tableOf, wordsNeeded, claimedLeaf, claimedText, claimed, claims, begins, lawful, tableFor, itemsOf}
+use Rattle.format.specs.Tables.{count, rows, isText, inWords, fromWords, leafWords, codes, letters, textWords, dataWords, groupWords, leafA, leafB, containerKind, rowKind, groupB, rowWords, tableOf, wordsNeeded, claimedLeaf, claimedText, claimed, claims, begins, lawful, tableFor, itemsOf}
 use Rattle.format.proofs.Choices.{ifEq-no, pick-yes, pick-no, byPick, whether, both-left, both-right, both-true, eq-true, true-eq, true-lt, true-le}
 use Rattle.format.proofs.Digits.{signed-twos}
 use Rattle.format.proofs.BitLaws.{isOne-bit, spread-packed, spread-length, packed-length, words-enough, Below, packed-spread}
@@ -96,7 +96,7 @@ words-on a b m ds d h =
 -- a group that is no string: its kind picks the group, and b are the rows beneath
 by-kind : (g : Group) (c : Items) {x y : Items} (z : Items) → isText g c ≡ false →
     ifEq (rowKind g c) 7 (group struc x y) (ifEq (rowKind g c) 8 (group edt x y) z) ≡ group g x y
-unfolding rowKind boxKind ifEq pick
+unfolding rowKind containerKind ifEq pick
 by-kind struc c z h = rw h refl
 by-kind edt c z h = refl
 
@@ -108,7 +108,7 @@ text-kind edt c h = let z : _≡_ {A = ℕ} 0 1 = cc in absurd (omega arith)
 
 -- the kind of a group that is none is another
 pub other-kind : (g : Group) (c : Items) → isText g c ≡ false → (rowKind g c ≡ 9) → ⊥
-unfolding rowKind boxKind pick
+unfolding rowKind containerKind pick
 other-kind struc c h = rw h (λ e. omega arith)
 other-kind edt c h = λ e. omega arith
 
@@ -235,8 +235,10 @@ claims-back : (xs : Items) (rest : List ℕ) → proper xs ≡ true → claims (
 unfolding claims tableOf
 claims-back xs rest h =
     let w : List ℕ = (rowWords 0 xs ++ dataWords xs) ++ rest in
-    let t : take (3 * rows xs) w ≡ rowWords 0 xs = ap (take (3 * rows xs)) (append-assoc (rowWords 0 xs) (dataWords xs) rest) ∙ take-at (rowWords 0 xs) (dataWords xs ++ rest) (3 * rows xs) (row-length 0 xs) in
-    let d : drop (3 * rows xs) w ≡ dataWords xs ++ rest = ap (drop (3 * rows xs)) (append-assoc (rowWords 0 xs) (dataWords xs) rest) ∙ drop-at (rowWords 0 xs) (dataWords xs ++ rest) (3 * rows xs) (row-length 0 xs) in
+    let n : ℕ = 3 * rows xs in
+    let k : w ≡ rowWords 0 xs ++ (dataWords xs ++ rest) = append-assoc (rowWords 0 xs) (dataWords xs) rest in
+    let t : take n w ≡ rowWords 0 xs = ap (take n) k ∙ take-at (rowWords 0 xs) (dataWords xs ++ rest) n (row-length 0 xs) in
+    let d : drop n w ≡ dataWords xs ++ rest = ap (drop n) k ∙ drop-at (rowWords 0 xs) (dataWords xs ++ rest) n (row-length 0 xs) in
     let e : drop (4 + 3 * rows xs) (tableOf xs ++ rest) ≡ drop (3 * rows xs) w = sym (drop-drop (3 * rows xs) 4 (tableOf xs ++ rest)) in
     ap₂ (claimed (rows xs)) t e ∙ rows-back (rows xs) 0 xs (drop (3 * rows xs) w) rest (omega arith) h d
 

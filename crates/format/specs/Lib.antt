@@ -12,6 +12,9 @@ pub mod Tables
 pub mod Normal
 pub mod Answers
 pub mod Examples
--- No meanings: how the code numbers the classes, and the count by which it tells them.
+-- No meanings, but what contracts cite beside them: how the code numbers the classes, and the count by which it tells them; a run
+-- piece by piece; a lent slice that is written in part.
 pub mod Codes
 pub mod Ones
+pub mod Runs
+pub mod Lent

@@ -28,9 +28,9 @@ pub data Head : Type 0 where
 
 -- `d` containers stand around the object; with none it is outermost.
 -- 2: "an outermost object needs bytes past the input's end"; 3: "an inner object needs bytes past its enclosing object's end"
-unfoldable pub past : ℕ → ℕ
-past zero = past-input
-past (suc d) = past-enclosing
+unfoldable pub pastEnd : ℕ → ℕ
+pastEnd zero = past-input
+pastEnd (suc d) = past-enclosing
 
 -- E0-E7 and F0-F7: "1-7; E0 means 8", "F0 means 8"
 unfoldable pub following : ℕ → ℕ
@@ -39,8 +39,8 @@ following b = ifEq (b % 8) 0 8 (b % 8)
 
 -- k bytes behind the type-byte, if they are there; if not, "how many bytes are wanting"
 unfoldable pub fixed : ℕ → ℕ → List ℕ → (List ℕ → Head) → Head
-unfolding ifLt past
-fixed d k s f = ifLt (length s) k (stop (wants (past d) (k - length s))) (f (take k s))
+unfolding ifLt pastEnd
+fixed d k s f = ifLt (length s) k (stop (wants (pastEnd d) (k - length s))) (f (take k s))
 
 -- "LINTEGER: two's complement, high byte first"
 unfoldable pub integer : List ℕ → ℤ
@@ -80,9 +80,9 @@ contents s h n = take n (drop h s)
 -- "size bytes present, contents within the end": then what `f` makes of where the contents start, and their size. If not, the
 -- wanting bytes are told, "from the object's own size where that is complete".
 unfoldable pub within : ℕ → List ℕ → (ℕ → ℕ → Head) → Size → Head
-unfolding ifLt past
-within d s f (cut k) = stop (wants (past d) k)
-within d s f (size h n) = ifLt (length s - h) n (stop (wants (past d) (n - (length s - h)))) (f h n)
+unfolding ifLt pastEnd
+within d s f (cut k) = stop (wants (pastEnd d) k)
+within d s f (size h n) = ifLt (length s - h) n (stop (wants (pastEnd d) (n - (length s - h)))) (f h n)
 
 unfoldable pub sized : ℕ → List ℕ → (ℕ → ℕ → Head) → Head
 unfolding within sizeOf
@@ -92,19 +92,19 @@ sized d s f = within d s f (sizeOf s)
 -- or its value and the bytes up to its end
 pub data Leading : Type 0 where
   absent : Leading
-  short : ℕ → ℕ → Leading
+  cutInt : ℕ → ℕ → Leading
   found : ℤ → ℕ → Leading
 
 unfoldable pub later : Leading → Leading
 later absent = absent
-later (short p k) = short (suc p) k
+later (cutInt p k) = cutInt (suc p) k
 later (found z u) = found z (suc u)
 
 unfoldable pub leadingBy : Class → ℕ → List ℕ → Leading → Leading
 unfolding ifLt following integer later
 leadingBy Sinteger b s more = found (pos (b - 0x80)) 1
 leadingBy Linteger b s more =
-    ifLt (length s) (following b) (short 0 (following b - length s)) (found (integer (take (following b) s)) (1 + following b))
+    ifLt (length s) (following b) (cutInt 0 (following b - length s)) (found (integer (take (following b) s)) (1 + following b))
 leadingBy Padding b s more = later more
 leadingBy Char7 b s more = absent
 leadingBy Sbitstr b s more = absent
@@ -130,7 +130,7 @@ leading (b ∷ s) = leadingBy (classOf b) b s (leading s)
 unfoldable pub counted : ℕ → ℕ → (ℕ → ℕ → Head) → Leading → Head
 unfolding further
 counted why h f absent = stop (here why)
-counted why h f (short p k) = stop (further (1 + h + p) (wants past-enclosing k))
+counted why h f (cutInt p k) = stop (further (1 + h + p) (wants past-enclosing k))
 counted why h f (found (pos n) u) = f n u
 counted why h f (found (negsuc n) u) = stop (here why)
 

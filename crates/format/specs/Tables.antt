@@ -95,13 +95,13 @@ unfolding dataWords
 groupWords g c = pick (isText g c) (textWords c) (dataWords c)
 
 -- "7 STRUC, 8 EDT", and Ask 7: "Kind 7 is then never a string." What a USTRUC goes by (`groupKind`) is another rule.
-unfoldable pub boxKind : Group → ℕ
-boxKind struc = 7
-boxKind edt = 8
+unfoldable pub containerKind : Group → ℕ
+containerKind struc = 7
+containerKind edt = 8
 
 unfoldable pub rowKind : Group → Items → ℕ
-unfolding pick isText boxKind
-rowKind g c = pick (isText g c) 9 (boxKind g)
+unfolding pick isText containerKind
+rowKind g c = pick (isText g c) 9 (containerKind g)
 
 -- a group's b: "its first data word", or "rows beneath". "A string of none has as b the data words used so far." Its a are "the
 -- number of characters", or "direct elements": its items are counted either way.

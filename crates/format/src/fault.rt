@@ -2,8 +2,12 @@
 ghost use mathlib.Core.Path.{_≡_};
 ghost use Prim.Native.Nat.{_+_, _^_, _<_, min};
 ghost use Rattle.format.specs.Refusals as R;
+use super::limits::MOST_BYTES;
 
-// The numbers, each written here alone.
+// The numbers, each written here alone. 2 to 9 are faults of a message; the others are met before one is read, where it is laid out,
+// and where a table is written.
+pub const TOO_LONG: usize = 1;
+
 pub const PAST_INPUT: usize = 2;
 
 pub const PAST_ENCLOSING: usize = 3;
@@ -19,6 +23,18 @@ pub const BAD_REPEAT: usize = 7;
 pub const SEVERAL_KINDS: usize = 8;
 
 pub const BAD_EDT: usize = 9;
+
+pub const TOO_MANY: usize = 10;
+
+pub const TABLE_SHORT: usize = 11;
+
+pub const NOT_A_TABLE: usize = 12;
+
+pub const TOO_NESTED: usize = 13;
+
+pub const NORMAL_LONG: usize = 14;
+
+pub const OUTPUT_SHORT: usize = 15;
 
 // The number; the offset of the faulty object's type-byte, from the start of what is being read; and with 2 and 3 the bytes that
 // are missing, otherwise 0.
@@ -43,7 +59,7 @@ pub fn here(number: usize) -> Fault
 fn told(k: usize) -> usize
     ensures { λ r. ⌜ r ≡ min k 65536 ⌝ }
 {
-    if k <= 65536 { k } else { 65536 }
+    if k <= MOST_BYTES { k } else { MOST_BYTES }
 }
 
 // One for which k bytes are missing.

@@ -10,9 +10,9 @@ use Rattle.format.specs.Bits.{packed, wordsFor}
 use Rattle.format.specs.Tables.{fromWords, claimedText, codes}
 use Rattle.format.proofs.BitLaws.{packed-at, adjusted-byte}
 use Rattle.format.proofs.TableLaws.{codes-length}
-use Rattle.writer.specs.Rows.{aAt, bAt, dataOf, textAt, TextAt}
-use Rattle.writer.proofs.CodeLaws.{codes-text}
-use Rattle.writer.proofs.WordLaws.{kept-at, text-kept}
+use Rattle.table.specs.Rows.{aAt, bAt, dataOf, textAt, TextAt}
+use Rattle.table.proofs.CodeLaws.{codes-text}
+use Rattle.table.proofs.RowData.{kept-at, text-kept}
 use Rattle.listing.specs.Lines.{decimal, codesColumn, textValue, space}
 use Rattle.listing.specs.Puts.{Wrote}
 use Rattle.listing.proofs.Putting.{then, byte, Part, part-step, part-room}
@@ -39,7 +39,7 @@ module _ (w : List ℕ) (p : ℕ) (h : TextAt w p) where
   string-value = ap (λ n. decimal n ++ codesColumn (codes (textAt w p))) codes-number
 
 -- one code, and those behind it
-pub codes-on : (cs : List ℕ) (i : ℕ) → i < length cs → codesColumn (drop i cs) ≡ ((space ∷ []) ++ decimal (getD cs i 0)) ++ codesColumn (drop (i + 1) cs)
+codes-on : (cs : List ℕ) (i : ℕ) → i < length cs → codesColumn (drop i cs) ≡ ((space ∷ []) ++ decimal (getD cs i 0)) ++ codesColumn (drop (i + 1) cs)
 unfolding codesColumn
 codes-on cs i h = ap codesColumn (drop-cons cs i 0 h) ∙ ap (λ n. space ∷ (decimal (getD cs i 0) ++ codesColumn (drop n cs))) (sym (add-one i))
 

@@ -9,8 +9,8 @@ use lib.IntN.{pos, negsuc}
 use Rattle.format.specs.Numbers.{signed}
 use Rattle.format.proofs.Choices.{ifLt-yes, ifLt-no, split}
 use Rattle.listing.specs.Lines.{digitsF, decimal, signedDecimal}
-use Rattle.listing.specs.Puts.{put}
-use Rattle.listing.proofs.Putting.{put-last}
+use Rattle.format.specs.Lent.{overAt}
+use Rattle.format.proofs.Over.{at-last}
 
 -- more tries change nothing
 tries : (f g n : ℕ) → n < f → n < g → digitsF f n ≡ digitsF g n
@@ -21,11 +21,11 @@ tries (suc f) (suc g) n h k =
     split n 10 (λ l. ifLt-yes n 10 _ _ l ∙ sym (ifLt-yes n 10 _ _ l))
     (λ l. ifLt-no n 10 _ _ l ∙ ap (λ z. z ++ ((0x30 + n % 10) ∷ [])) (tries f g (n / 10) (omega arith) (omega arith)) ∙ sym (ifLt-no n 10 _ _ l))
 
-pub digit : (n : ℕ) → n < 10 → decimal n ≡ (0x30 + n) ∷ []
+digit : (n : ℕ) → n < 10 → decimal n ≡ (0x30 + n) ∷ []
 unfolding decimal digitsF
 digit n l = ifLt-yes n 10 _ _ l
 
-pub digits-on : (n : ℕ) → 10 ≤ n → decimal n ≡ decimal (n / 10) ++ ((0x30 + n % 10) ∷ [])
+digits-on : (n : ℕ) → 10 ≤ n → decimal n ≡ decimal (n / 10) ++ ((0x30 + n % 10) ∷ [])
 unfolding decimal digitsF
 digits-on n l = ifLt-no n 10 _ _ l ∙ ap (λ z. z ++ ((0x30 + n % 10) ∷ [])) (tries n (suc (n / 10)) (n / 10) (omega arith) (omega arith))
 
@@ -50,7 +50,7 @@ unfoldable pub lastDigits : ℕ → ℕ → List ℕ
 lastDigits zero n = []
 lastDigits (suc k) n = lastDigits k (n / 10) ++ ((0x30 + n % 10) ∷ [])
 
-pub last-length : (k n : ℕ) → length (lastDigits k n) ≡ k
+last-length : (k n : ℕ) → length (lastDigits k n) ≡ k
 unfolding lastDigits
 last-length zero n = refl
 last-length (suc k) n = length-append (lastDigits k (n / 10)) ((0x30 + n % 10) ∷ []) ∙ omega (arith, last-length k (n / 10))
@@ -67,15 +67,15 @@ all-digits (suc k) n e =
     (λ l. ap (λ z. z ++ ((0x30 + n % 10) ∷ [])) (all-digits k (n / 10) (omega (arith, count-on n l))) ∙ sym (digits-on n l))
 
 pub digit-turn : (p i x : ℕ) (t : List ℕ) → p < i → i ≤ length t →
-    put p (lastDigits (i - p) x) t ≡ put p (lastDigits (i - 1 - p) (x / 10)) (set t (i - 1) (0x30 + x % 10))
+    overAt p (lastDigits (i - p) x) t ≡ overAt p (lastDigits (i - 1 - p) (x / 10)) (set t (i - 1) (0x30 + x % 10))
 unfolding lastDigits
 digit-turn p i x t h l =
     let e : i - p ≡ suc (i - 1 - p) = omega arith in
     let n = last-length (i - 1 - p) (x / 10) in
     let q : p + length (lastDigits (i - 1 - p) (x / 10)) ≡ i - 1 = omega arith in
-    ap (λ k. put p (lastDigits k x) t) e
-    ∙ put-last p (lastDigits (i - 1 - p) (x / 10)) (0x30 + x % 10) t (omega arith)
-    ∙ ap (λ j. put p (lastDigits (i - 1 - p) (x / 10)) (set t j (0x30 + x % 10))) q
+    ap (λ k. overAt p (lastDigits k x) t) e
+    ∙ at-last p (0x30 + x % 10) (lastDigits (i - 1 - p) (x / 10)) t (omega arith)
+    ∙ ap (λ j. overAt p (lastDigits (i - 1 - p) (x / 10)) (set t j (0x30 + x % 10))) q
 
 -- ---- signed numbers, from their words
 pub signed-plus : (v : ℕ) → v < 0x8000000000000000 → signedDecimal (signed 8 v) ≡ decimal v

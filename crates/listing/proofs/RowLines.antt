@@ -11,13 +11,13 @@ use Rattle.format.specs.Choice.{ifEq, pick}
 use Rattle.format.specs.Numbers.{signed}
 use Rattle.format.specs.Bits.{bit, adjusted, wordsFor}
 use Rattle.format.specs.Items.{Leaf, int, bits, char, bool, empty, xtra, Group, struc, edt, Items, leafKind, isString}
-use Rattle.format.specs.Tables.{leafB, isText, boxKind, rowKind, codes}
+use Rattle.format.specs.Tables.{fromWords, leafB, isText, containerKind, rowKind, codes}
 use Rattle.format.proofs.Choices.{ifLt-yes, ifLt-no, ifEq-yes, ifEq-no}
 use Rattle.format.proofs.BitLaws.{adjusted-div, adjusted-mod}
 use Rattle.format.proofs.TableLaws.{leaf-kind, other-kind}
-use Rattle.writer.proofs.Standing.{group-kind}
-use Rattle.writer.specs.Rows.{kindAt, aAt, bAt, leafAt, LeafAt, textAt}
-use Rattle.writer.proofs.LeafForms.{BitsRow, word-at, int-at}
+use Rattle.table.proofs.Standing.{group-kind}
+use Rattle.table.specs.Rows.{kindAt, aAt, bAt, dataOf, leafAt, LeafAt, textAt}
+use Rattle.table.proofs.RowData.{BitsRow, kept-at, kept-in, int-at}
 use Rattle.listing.specs.Lines.{decimal, signedDecimal, bitText, bitsColumn, leafColumns, groupColumns, textValue, textColumns, line, newline}
 use Rattle.listing.specs.Puts.{Wrote}
 use Rattle.listing.specs.RowTexts.{kindWord, leafBits, leafValue, valueAt, rowText}
@@ -44,50 +44,51 @@ text-length [] = refl
 text-length (b ∷ bs) = ap suc (text-length bs)
 
 module _ (w : List ℕ) (p : ℕ) (r : BitsRow w p) where
+  abbrev stream : List Bool
+  stream = fromWords (aAt w p) (bAt w p) (dataOf w)
+
   pub stream-length : length (bitText (leafBits (leafAt w p))) ≡ aAt w p
   unfolding leafBits
-  stream-length = rw (r .is, r .number) (text-length (r .stream))
+  stream-length = rw (r .is) (text-length stream ∙ r .kept .number)
 
   -- the data word of a bit is there
   pub word-in : (i : ℕ) → i < aAt w p → 3 * getD w 0 0 + 4 + bAt w p + i / 64 < length w
   unfolding wordsFor
-  word-in i h =
-      let n = r .number in
-      let s = r .stored in
-      omega arith
+  word-in i h = kept-in w (bAt w p) (aAt w p) (r .kept) (i / 64) (omega arith)
 
   pub stream-at : (i : ℕ) → i < aAt w p →
       0x30 + getD w (3 * getD w 0 0 + 4 + bAt w p + i / 64) 0 / 2 ^ (63 - i % 64) % 2 ≡ getD (bitText (leafBits (leafAt w p))) i 0
   unfolding leafBits wordsFor
   stream-at i h =
-      let bs = r .stream in
-      let n = r .number in
+      let n = r .kept .number in
       let e : 64 * (i / 64) + i % 64 ≡ i = omega arith in
-      rw (r .is) (ap (λ z. 0x30 + z) (ap (λ z. z / 2 ^ (63 - i % 64) % 2) (word-at w p r (i / 64) (omega arith))
-      ∙ bit-of-word (i % 64) (drop (64 * (i / 64)) bs) (omega arith)
-      ∙ ap (adjusted 1) (drop-drop (i % 64) (64 * (i / 64)) bs ∙ ap (λ z. drop z bs) e)
-      ∙ bit-first bs i (omega arith)) ∙ sym (text-at bs i (omega arith)))
+      rw (r .is) (ap (λ z. 0x30 + z) (ap (λ z. z / 2 ^ (63 - i % 64) % 2) (kept-at w (bAt w p) (aAt w p) (r .kept) (i / 64) (omega arith))
+      ∙ bit-of-word (i % 64) (drop (64 * (i / 64)) stream) (omega arith)
+      ∙ ap (adjusted 1) (drop-drop (i % 64) (64 * (i / 64)) stream ∙ ap (λ z. drop z stream) e)
+      ∙ bit-first stream i (omega arith)) ∙ sym (text-at stream i (omega arith)))
 
   -- the number of bits, then nothing, or a space and the bits
+  value-is : leafValue (leafAt w p) ≡ decimal (aAt w p) ++ bitsColumn stream
+  unfolding leafValue
+  value-is = ap leafValue (r .is) ∙ ap (λ n. decimal n ++ bitsColumn stream) (r .kept .number)
+
   pub bits-none : aAt w p ≡ 0 → leafValue (leafAt w p) ≡ decimal (aAt w p)
-  unfolding leafValue bitsColumn
-  bits-none z = rw (r .is, r .number) (go (r .stream) (sym (r .number) ∙ z))
+  bits-none z = value-is ∙ go stream (r .kept .number ∙ z)
     where
-      go : (bs : List Bool) → length bs ≡ 0 → decimal (length bs) ++ bitsColumn bs ≡ decimal (length bs)
-      go [] e = append-nil (decimal 0)
+      go : (bs : List Bool) → length bs ≡ 0 → decimal (aAt w p) ++ bitsColumn bs ≡ decimal (aAt w p)
+      go [] e = unfold bitsColumn in append-nil (decimal (aAt w p))
       go (b ∷ bs) e = absurd (omega arith)
 
   pub bits-some : 0 < aAt w p → leafValue (leafAt w p) ≡ decimal (aAt w p) ++ (0x20 ∷ bitText (leafBits (leafAt w p)))
-  unfolding leafValue bitsColumn leafBits
-  bits-some z = let n = r .number in rw (r .is, r .number) (go (r .stream) (omega arith))
+  unfolding leafBits
+  bits-some z = let n = r .kept .number in value-is ∙ rw (r .is) (go stream (omega arith))
     where
-      go : (bs : List Bool) → 0 < length bs → decimal (length bs) ++ bitsColumn bs ≡ decimal (length bs) ++ (0x20 ∷ bitText bs)
+      go : (bs : List Bool) → 0 < length bs → decimal (aAt w p) ++ bitsColumn bs ≡ decimal (aAt w p) ++ (0x20 ∷ bitText bs)
       go [] e = absurd (omega arith)
-      go (b ∷ bs) e = refl
+      go (b ∷ bs) e = unfold bitsColumn in refl
 
   pub bits-long : length (decimal (aAt w p)) ≤ length (leafValue (leafAt w p))
-  unfolding leafValue
-  bits-long = rw (r .is, r .number) (omega (arith, length-append (decimal (length (r .stream))) (bitsColumn (r .stream))))
+  bits-long = rw value-is (omega (arith, length-append (decimal (aAt w p)) (bitsColumn stream)))
 
 -- ---- the word of a kind
 pub word-length : (k n : ℕ) → k ≡ n → length (kindWord k) ≡ length (kindWord n)
@@ -118,7 +119,7 @@ leaf-columns empty = refl
 leaf-columns (xtra n) = refl
 
 group-columns : (g : Group) (c : Items) (n : ℕ) → isText g c ≡ false → groupColumns g n ≡ kindWord (rowKind g c) ++ decimal n
-unfolding groupColumns kindWord rowKind boxKind isText isString ifEq pick
+unfolding groupColumns kindWord rowKind containerKind isText isString ifEq pick
 group-columns struc c n t = rw t refl
 group-columns edt c n t = refl
 
@@ -194,4 +195,6 @@ module _ (w : List ℕ) (p : ℕ) where
   pub row-length : (d : ℕ) → length (rowText d w p) ≡ length (decimal d) + length (kindWord (kindAt w p)) + length (valueAt w p) + 1
   unfolding rowText
   row-length d =
-      omega (arith, length-append (decimal d) (kindWord (kindAt w p) ++ (valueAt w p ++ (newline ∷ []))), length-append (kindWord (kindAt w p)) (valueAt w p ++ (newline ∷ [])), length-append (valueAt w p) (newline ∷ []))
+      let v = valueAt w p ++ (newline ∷ []) in
+      let k = kindWord (kindAt w p) in
+      omega (arith, length-append (decimal d) (k ++ v), length-append k v, length-append (valueAt w p) (newline ∷ []))

@@ -8,15 +8,15 @@ use lib.ListN.{length, length-append}
 use Rattle.format.specs.Items.{Items, struc, leaf}
 use Rattle.format.specs.Tables.{count, isText, codes}
 use Rattle.format.proofs.Choices.{pick-yes, pick-no, split, split-eq}
-use Rattle.writer.specs.Rows.{kindAt, aAt, bAt, Stands, itemsAt, Run, textAt}
-use Rattle.writer.proofs.Standing.{text-struc, group-parts}
-use Rattle.writer.proofs.RunLaws.{LeafStep, GroupStep, TextStep, leaf-step, group-step, text-step, run-end}
+use Rattle.table.specs.Rows.{kindAt, aAt, bAt, Stands, itemsAt, Run, textAt}
+use Rattle.table.proofs.Standing.{text-struc, group-parts}
+use Rattle.table.proofs.RunLaws.{LeafStep, GroupStep, TextStep, leaf-step, group-step, text-step, run-end}
 use Rattle.listing.specs.Lines.{groupColumns, textColumns, line, lines}
-use Rattle.listing.specs.RowTexts.{rowText, RowAt}
+use Rattle.listing.specs.RowTexts.{rowText, RowInOrder}
 use Rattle.listing.proofs.RowLines.{leaf-line, group-line, text-line}
 
 module _ (w : List ℕ) (p e : ℕ) where
-  pub row-at : Run w p e → p < e → RowAt w p
+  pub row-at : Run w p e → p < e → RowInOrder w p
   row-at r h =
       let i = r .stands .within in
       record { within = omega arith; leaf = λ k. leaf-step w p e r h k .here; text = λ k. text-step w p e r h k .here }
@@ -44,7 +44,8 @@ module _ (w : List ℕ) (p e : ℕ) where
   text-lines d k s =
       let c = textAt w p in
       let l = line d (textColumns (codes c)) in
-      ap (lines d) (s .is) ∙ ap (λ z. z ++ lines d (itemsAt w (p + 1) e)) (pick-yes (isText struc c) l (line d (groupColumns struc (count c)) ++ lines (suc d) c) (text-struc c (s .here .row .chars)) ∙ sym (text-line w p d k))
+      ap (lines d) (s .is) ∙ ap (λ z. z ++ lines d (itemsAt w (p + 1) e)) (pick-yes (isText struc c) l (line d (groupColumns struc (count c)) ++ lines (suc d) c)
+      (text-struc c (s .here .row .chars)) ∙ sym (text-line w p d k))
 
   -- the first row's line comes first
   pub row-first : (d : ℕ) → Run w p e → p < e → length (rowText d w p) ≤ length (lines d (itemsAt w p e))

@@ -14,9 +14,9 @@ use Rattle.format.specs.Tables.{count, rows, isText, codes, leafWords, textWord
 use Rattle.format.specs.Normal.{depth}
 use Rattle.format.proofs.Choices.{pick-yes, pick-no, whether, both-left, both-right, true-lt}
 use Rattle.format.proofs.TableLaws.{text-kind, codes-length, text-length, characters-of}
-use Rattle.writer.specs.Rows.{allLow}
-use Rattle.writer.proofs.CodeLaws.{proper-text}
-use Rattle.writer.proofs.Standing.{leaf-rows, leaf-data, group-rows, group-data, text-rows, text-data}
+use Rattle.table.specs.InOrder.{allLow}
+use Rattle.table.proofs.CodeLaws.{proper-text}
+use Rattle.table.proofs.Standing.{leaf-rows, leaf-data, group-rows, group-data, text-rows, text-data}
 use lib.Dec.{ltb}
 use Rattle.format.proofs.BitLaws.{packed-length, words-enough}
 use Rattle.listing.specs.Lines.{decimal, signedDecimal, bitsColumn, leafColumns, groupColumns, codesColumn, textValue, textColumns, line, lines, newline}

@@ -8,7 +8,7 @@ use Rattle.format.specs.Choice.{ifLt, ifEq}
 use Rattle.format.specs.Bits.{bit}
 use Rattle.format.specs.Tables.{codes}
 use Rattle.format.specs.Items.{Leaf, int, bits, char, bool, empty, xtra}
-use Rattle.writer.specs.Rows.{kindAt, aAt, leafAt, LeafAt, textAt, TextAt}
+use Rattle.table.specs.Rows.{kindAt, aAt, leafAt, LeafAt, textAt, TextAt}
 use Rattle.listing.specs.Lines.{decimal, signedDecimal, bitsColumn, textValue, space, newline}
 
 -- "INT", "BITS", "CHAR", "BOOL", "EMPTY", "XTRA", "STRUC", "STRING", "EDT" by kind, between spaces; none behind "EMPTY"
@@ -53,7 +53,7 @@ unfolding decimal kindWord valueAt
 rowText d w p = decimal d ++ (kindWord (kindAt w p) ++ (valueAt w p ++ (newline ∷ [])))
 
 -- a row that is in order
-pub record RowAt (w : List ℕ) (p : ℕ) : Type 0 where
+pub record RowInOrder (w : List ℕ) (p : ℕ) : Type 0 where
   pub within : 3 * p + 7 ≤ length w
   pub leaf : kindAt w p < 7 → LeafAt w p
   pub text : kindAt w p ≡ 9 → TextAt w p

@@ -14,6 +14,7 @@ mod walk;
 use crate::digits::put_decimal;
 use crate::digits::put_text;
 use crate::walk::put_run;
+use format::fault::TOO_LONG;
 use message::read;
 
 // The lines of a table's items. The text of no such table is longer than 524,288 bytes.
@@ -52,7 +53,7 @@ pub fn list(message: &[u8], table: &mut [u64], out: &mut [u8]) -> usize
     ensures { λ r. ⌜ now (table .exit) ≡ listedTable (now (message .entry)) (now (table .entry)) ⌝ }
 {
     if message.len() > 32768 {
-        return refused(1, 0, out);
+        return refused(TOO_LONG, 0, out);
     }
     let answer = read(message, table);
     if answer.number == 0 {

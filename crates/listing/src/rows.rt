@@ -3,27 +3,35 @@ ghost use Prim.Native.Nat.{_+_, _-_, _*_, _/_, _%_, _^_, _<_, _≤_};
 ghost use mathlib.Core.Path.{_≡_};
 ghost use lib.ListN.{length};
 ghost use Rattle.format.specs.Tables.{codes};
-ghost use Rattle.writer.specs.Rows.{kindAt, leafAt, LeafAt, textAt, TextAt};
+ghost use Rattle.table.specs.Rows.{kindAt, leafAt, LeafAt, textAt, TextAt};
 ghost use Rattle.listing.specs.Lines.{bitText, codesColumn, textValue};
 ghost use Rattle.listing.specs.Puts.{Wrote};
-ghost use Rattle.listing.specs.RowTexts.{kindWord, leafBits, leafValue, valueAt, rowText, RowAt};
+ghost use Rattle.listing.specs.RowTexts.{kindWord, leafBits, leafValue, valueAt, rowText, RowInOrder};
 use crate::digits::put_decimal;
 use crate::digits::put_signed;
 use crate::digits::put_text;
+use format::kinds::BITS;
+use format::kinds::BOOL;
+use format::kinds::CHAR;
+use format::kinds::EMPTY;
+use format::kinds::INT;
+use format::kinds::STRING;
+use format::kinds::STRUC;
+use format::kinds::XTRA;
 
 fn put_word(kind: u64, out: &mut [u8], at: usize) -> usize
     requires { ⌜ at + length (kindWord kind) ≤ length (now out) ⌝ }
     ensures { λ r. ⌜ Wrote at (kindWord kind) (now (out .entry)) r (now (out .exit)) ⌝ }
 {
     match kind {
-        1 => put_text(out, at, b" INT "),
-        2 => put_text(out, at, b" BITS "),
-        3 => put_text(out, at, b" CHAR "),
-        4 => put_text(out, at, b" BOOL "),
-        5 => put_text(out, at, b" EMPTY"),
-        6 => put_text(out, at, b" XTRA "),
-        7 => put_text(out, at, b" STRUC "),
-        9 => put_text(out, at, b" STRING "),
+        INT => put_text(out, at, b" INT "),
+        BITS => put_text(out, at, b" BITS "),
+        CHAR => put_text(out, at, b" CHAR "),
+        BOOL => put_text(out, at, b" BOOL "),
+        EMPTY => put_text(out, at, b" EMPTY"),
+        XTRA => put_text(out, at, b" XTRA "),
+        STRUC => put_text(out, at, b" STRUC "),
+        STRING => put_text(out, at, b" STRING "),
         _ => put_text(out, at, b" EDT "),
     }
 }
@@ -107,32 +115,32 @@ fn put_string(table: &[u64], p: usize, out: &mut [u8], at: usize) -> usize
 
 // What stands behind the kind: nothing for an EMPTY, the number of elements for a STRUC or an EDT.
 fn put_value(table: &[u64], p: usize, out: &mut [u8], at: usize) -> usize
-    requires { ⌜ RowAt (now table) p ⌝ }
+    requires { ⌜ RowInOrder (now table) p ⌝ }
     requires { ⌜ at + length (valueAt (now table) p) ≤ length (now out) ⌝ }
     ensures { λ r. ⌜ Wrote at (valueAt (now (table .entry)) p) (now (out .entry)) r (now (out .exit)) ⌝ }
 {
     let kind = table[3 * p + 4];
-    if kind >= 7 {
-        if kind == 9 {
+    if kind >= STRUC {
+        if kind == STRING {
             return put_string(table, p, out, at);
         }
         return put_decimal(out, at, table[3 * p + 5]);
     }
     let b = table[3 * p + 6];
-    if kind == 1 {
+    if kind == INT {
         return put_signed(out, at, b);
     }
-    if kind == 2 {
+    if kind == BITS {
         return put_bits(table, p, out, at);
     }
-    if kind == 5 {
+    if kind == EMPTY {
         return at;
     }
     put_decimal(out, at, b)
 }
 
 pub fn put_row(table: &[u64], p: usize, depth: usize, out: &mut [u8], at: usize) -> usize
-    requires { ⌜ RowAt (now table) p ⌝ }
+    requires { ⌜ RowInOrder (now table) p ⌝ }
     requires { ⌜ at + length (rowText depth (now table) p) ≤ length (now out) ⌝ }
     ensures { λ r. ⌜ Wrote at (rowText depth (now (table .entry)) p) (now (out .entry)) r (now (out .exit)) ⌝ }
 {

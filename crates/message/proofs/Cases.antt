@@ -106,15 +106,15 @@ pub same-length : (w : List ℕ) (xs ys : Items) → IsTable w xs → IsTable w 
 same-length w xs ys i j = ap (λ z. length (normal z)) (one-table w xs ys i j)
 
 -- A table is judged before its output is looked at: it is refused alike whatever is lent, or its normal form is put there.
-pub data Judged (w : List ℕ) : Type 0 where
-  no-form : (n : ℕ) → Unwritable w n → ((o : List ℕ) → writing w o ≡ unwritten n 0 o) → Judged w
-  form : (xs : Items) → IsTable w xs → Writable xs (length (normal xs)) → ((o : List ℕ) → writing w o ≡ put o (normal xs)) → Judged w
+pub data JudgedFirst (w : List ℕ) : Type 0 where
+  no-form : (n : ℕ) → Unwritable w n → ((o : List ℕ) → writing w o ≡ unwritten n 0 o) → JudgedFirst w
+  form : (xs : Items) → IsTable w xs → Writable xs (length (normal xs)) → ((o : List ℕ) → writing w o ≡ put o (normal xs)) → JudgedFirst w
 
-pub judged : (w : List ℕ) → Judged w
+pub judged : (w : List ℕ) → JudgedFirst w
 unfolding writing
 judged w = go (itemsOf w) refl
   where
-    go : (i : Option Items) → itemsOf w ≡ i → Judged w
+    go : (i : Option Items) → itemsOf w ≡ i → JudgedFirst w
     go none e = no-form 12 (no-table (no-items w e)) (λ o. ap (λ i. writingOf i o) e ∙ (unfold writingOf in refl))
     go (some xs) e =
         let t = table-of-items w xs e in
@@ -142,7 +142,7 @@ write-by w o P wrong deep long room all = go (judged w)
     refuse n (too-deep xs i d) = deep xs i d
     refuse n (too-long xs i d l) = long xs i d l
 
-    go : Judged w → P (writing w o)
+    go : JudgedFirst w → P (writing w o)
     go (no-form n u f) = subst P (sym (f o)) (refuse n u)
     go (form xs i c f) =
         subst P (sym (f o))
@@ -150,14 +150,14 @@ write-by w o P wrong deep long room all = go (judged w)
         byLt P (length o) (length (normal xs)) (room xs i c) (λ r. all xs i (record { shallow = c .shallow; short = c .short; room = r })))
 
 -- written, with everything determined; or refused with one of the numbers 12 to 15, and the output as lent
-pub data Wrote (w o : List ℕ) : Writing → Type 0 where
+pub data WriteCase (w o : List ℕ) : Writing → Type 0 where
   written : (xs : Items) → IsTable w xs → Writable xs (length o)
-      → Wrote w o (record { number = 0; length = length (normal xs); output = over (normal xs) o })
-  no-writing : (n l : ℕ) → 12 ≤ n → n ≤ 15 → Wrote w o (record { number = n; length = l; output = o })
+      → WriteCase w o (record { number = 0; length = length (normal xs); output = over (normal xs) o })
+  no-writing : (n l : ℕ) → 12 ≤ n → n ≤ 15 → WriteCase w o (record { number = n; length = l; output = o })
 
-pub write-cases : (w o : List ℕ) → Wrote w o (writing w o)
+pub write-cases : (w o : List ℕ) → WriteCase w o (writing w o)
 write-cases w o =
-    write-by w o (Wrote w o) (λ n. no-writing 12 0 (omega arith) (omega arith)) (λ xs t d. no-writing 13 0 (omega arith) (omega arith))
+    write-by w o (WriteCase w o) (λ n. no-writing 12 0 (omega arith) (omega arith)) (λ xs t d. no-writing 13 0 (omega arith) (omega arith))
     (λ xs t d l. no-writing 14 0 (omega arith) (omega arith))
     (λ xs t f r. no-writing 15 (length (normal xs)) (omega arith) (omega arith))
     written

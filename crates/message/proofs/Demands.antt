@@ -23,7 +23,7 @@ use Rattle.format.proofs.NormalBytes.{normal-bytes}
 use Rattle.format.proofs.Minimal.{minimal}
 use Rattle.format.proofs.TableLaws.{table-back}
 use Rattle.message.specs.Words.{Says, Accepted, NoneDue, IsTable, Writable, Ready, given}
-use Rattle.message.proofs.Cases.{Read, accepted, no-reading, Wrote, written, no-writing, read-cases, read-due, items-of-table, write-cases, write-writable}
+use Rattle.message.proofs.Cases.{Read, accepted, no-reading, WriteCase, written, no-writing, read-cases, read-due, items-of-table, write-cases, write-writable}
 
 -- ---- Demand 1: "Give it anything: it answers and ends." Every answer is one of the numbers listed, and a refusal leaves what
 -- is lent untouched.
@@ -53,14 +53,14 @@ refused-reading m t = go (reading m t) (read-cases m t)
 pub writing-number : (w o : List ℕ) → (writing w o .number ≡ 0) ⊎ ((12 ≤ writing w o .number) × (writing w o .number ≤ 15))
 writing-number w o = go (writing w o) (write-cases w o)
   where
-    go : (r : Writing) → Wrote w o r → (r .number ≡ 0) ⊎ ((12 ≤ r .number) × (r .number ≤ 15))
+    go : (r : Writing) → WriteCase w o r → (r .number ≡ 0) ⊎ ((12 ≤ r .number) × (r .number ≤ 15))
     go r (written xs e f) = inl refl
     go r (no-writing n l a b) = inr (a, b)
 
 pub refused-writing : (w o : List ℕ) → writing w o .number ≢ 0 → writing w o .output ≡ o
 refused-writing w o = go (writing w o) (write-cases w o)
   where
-    go : (r : Writing) → Wrote w o r → r .number ≢ 0 → r .output ≡ o
+    go : (r : Writing) → WriteCase w o r → r .number ≢ 0 → r .output ≡ o
     go r (written xs e f) n = absurd (n refl)
     go r (no-writing n l a b) z = refl
 
@@ -104,7 +104,7 @@ pub written-exactly : (w o : List ℕ) → (writing w o .number ≡ 0) ↔ ((xs 
 written-exactly w o =
     (λ e. go (writing w o) (write-cases w o) e, λ d. ap (λ r. r .number) (write-writable w o (d .0) (items-of-table w (d .0) (d .1)) (d .2)))
   where
-    go : (r : Writing) → Wrote w o r → r .number ≡ 0 → (xs : Items) × IsTable w xs × Writable xs (length o)
+    go : (r : Writing) → WriteCase w o r → r .number ≡ 0 → (xs : Items) × IsTable w xs × Writable xs (length o)
     go r (written xs i f) e = (xs, i, f)
     go r (no-writing n l a b) e = absurd (omega arith)
 

@@ -14,7 +14,7 @@ use Rattle.format.specs.Answers.{over, Writing, unwritten, put, writing}
 use Rattle.format.proofs.Choices.{byLt, split}
 use Rattle.format.proofs.ItemLaws.{length-end, bytes-none}
 use Rattle.message.specs.Words.{IsTable, Unwritable, no-table, too-deep, too-long, Writable, Asked, alike, needed, nothing}
-use Rattle.message.proofs.Cases.{same-length, Judged, no-form, form, judged}
+use Rattle.message.proofs.Cases.{same-length, JudgedFirst, no-form, form, judged}
 use Rattle.message.proofs.Demands.{written-exactly, written-normal}
 use Rattle.message.proofs.WriteExactly.{writing-15, length-needed}
 
@@ -35,7 +35,7 @@ put-length o l = byLt (λ (r : Writing). r .length ≡ length l) (length o) (len
 pub one-refusal : (w o p : List ℕ) → 12 ≤ writing w o .number → writing w o .number ≤ 14 → writing w p ≡ unwritten (writing w o .number) 0 p
 one-refusal w o p = go (judged w)
   where
-    go : Judged w → 12 ≤ writing w o .number → writing w o .number ≤ 14 → writing w p ≡ unwritten (writing w o .number) 0 p
+    go : JudgedFirst w → 12 ≤ writing w o .number → writing w o .number ≤ 14 → writing w p ≡ unwritten (writing w o .number) 0 p
     go (no-form n u f) h k = f p ∙ ap (λ z. unwritten z 0 p) (sym (ap (λ (r : Writing). r .number) (f o)))
     go (form xs i c f) h k =
         let e = ap (λ (r : Writing). r .number) (f o) in
@@ -45,7 +45,7 @@ one-refusal w o p = go (judged w)
 pub one-length : (w o p : List ℕ) → writing w o .length ≡ writing w p .length
 one-length w o p = go (judged w)
   where
-    go : Judged w → writing w o .length ≡ writing w p .length
+    go : JudgedFirst w → writing w o .length ≡ writing w p .length
     go (no-form n u f) = ap (λ (r : Writing). r .length) (f o) ∙ sym (ap (λ (r : Writing). r .length) (f p))
     go (form xs i c f) =
         ap (λ (r : Writing). r .length) (f o) ∙ put-length o (normal xs)
@@ -58,7 +58,7 @@ told-form : (w o : List ℕ) → (writing w o .number ≡ 0) ⊎ (writing w o .n
     → (xs : Items) × IsTable w xs × Writable xs (length (normal xs)) × (writing w o .length ≡ length (normal xs))
 told-form w o = go (judged w)
   where
-    go : Judged w → (writing w o .number ≡ 0) ⊎ (writing w o .number ≡ 15)
+    go : JudgedFirst w → (writing w o .number ≡ 0) ⊎ (writing w o .number ≡ 15)
         → (xs : Items) × IsTable w xs × Writable xs (length (normal xs)) × (writing w o .length ≡ length (normal xs))
     go (no-form n u f) t =
         let e = ap (λ (r : Writing). r .number) (f o) in
@@ -141,6 +141,6 @@ asked w = go (judged w)
         let e = bytes-none xs (omega arith) in
         subst (λ ys. Asked w (record { number = 0; length = length (normal ys); output = over (normal ys) [] })) (sym e) (nothing (subst (IsTable w) e i)))
 
-    go : Judged w → Asked w (writing w [])
+    go : JudgedFirst w → Asked w (writing w [])
     go (no-form n u f) = subst (Asked w) (sym (f [])) (alike n u f)
     go (form xs i c f) = subst (Asked w) (sym (f [])) (formed xs i c)

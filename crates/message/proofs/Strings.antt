@@ -5,7 +5,6 @@ use native.Mathlib.Omega.{arith}
 use mathlib.Core.Path.{_≡_, refl, sym, ap, _∙_}
 use mathlib.Core.Logic.{inr, _↔_}
 use mathlib.Core.Bool.{Bool, true, false, not}
-use mathlib.Core.Option.{some}
 use mathlib.Core.List.{List, [], _∷_, _++_}
 use lib.ListN.{length, getD, drop, length-append}
 use lib.Seq.{drop-at, drop-drop}
@@ -21,12 +20,13 @@ use Rattle.format.proofs.Choices.{whether, pick-yes, both-left, both-right, ifE
 use Rattle.format.proofs.Counts.{count-times}
 use Rattle.format.proofs.BitLaws.{Below, bits-length, zero-adjusted, adjusted-bits, adjusted-byte, packed-at, spread-length}
 use Rattle.format.proofs.TableLaws.{by-chars, text-kind, other-kind, codes-length, text-length, characters-of}
-use Rattle.writer.specs.Rows.{kindAt, aAt, bAt, lands, allChars, kindOk, groupOk, dataTo, bitsOk, lowWords, textOk, rowOk}
-use Rattle.writer.proofs.Whole.{whole}
-use Rattle.writer.proofs.RowLaws.{row-text, row-group}
+use Rattle.table.specs.Rows.{kindAt, aAt, bAt, lands, dataTo}
+use Rattle.table.specs.InOrder.{allChars, kindOk, groupOk, bitsOk, lowWords, textOk, rowOk}
+use Rattle.table.proofs.Whole.{whole}
+use Rattle.table.proofs.RowLaws.{row-text, row-group}
 use Rattle.fill.proofs.StringLaws.{string-times}
 use Rattle.message.specs.Words.{Says, Accepted, IsTable, Unwritable, no-table, too-deep, too-long}
-use Rattle.message.proofs.Cases.{items-of-table, Judged, judged, no-form, form}
+use Rattle.message.proofs.Cases.{items-of-table, JudgedFirst, judged, no-form, form}
 use Rattle.message.proofs.Demands.{accepted-exactly}
 use Rattle.message.proofs.ReadExactly.{reading-10}
 
@@ -155,7 +155,7 @@ row-refused w o p l n = go (judged w)
     refused-as n (too-deep xs i d) = absurd (never xs i)
     refused-as n (too-long xs i d e) = absurd (never xs i)
 
-    go : Judged w → writing w o ≡ unwritten 12 0 o
+    go : JudgedFirst w → writing w o ≡ unwritten 12 0 o
     go (no-form n u f) = f o ∙ ap (λ z. unwritten z 0 o) (refused-as n u)
     go (form xs i c f) = absurd (never xs i)
 

@@ -41,7 +41,9 @@ pub late-tail : (m e t u : List ℕ) → reading m t .number ≡ 2 → length e 
 late-tail m e t u n h l =
     let x = waits m e (toldFault (reading m t)) (met m t (omega arith) (omega arith)) n h in
     subst
-    (λ (r : Reading). (r .number ≡ 2) × (r .place ≡ reading m t .place) × (reading m t .missing < byteLimit → reading m t .missing ≡ r .missing + length e) × (reading m t .missing ≤ r .missing + length e))
+    (λ (r : Reading).
+    (r .number ≡ 2) × (r .place ≡ reading m t .place) × (reading m t .missing < byteLimit → reading m t .missing ≡ r .missing + length e)
+    × (reading m t .missing ≤ r .missing + length e))
     (sym (tells (m ++ e) u (x .0) l (x .1))) (x .2 .still, x .2 .there, x .2 .fewer, x .2 .least)
 
 -- A bad sheet. With 3 to 9, bytes that come later change nothing of the answer, whatever they are.

@@ -5,6 +5,12 @@ ghost use Rattle.format.specs.Answers.{reading, writing, normalising};
 ghost use Rattle.message.specs.Told.{readTold, readAnswer, faultAnswer, writeTold, normaliseTold};
 use fill::fill;
 use format::fault::Fault;
+use format::fault::TABLE_SHORT;
+use format::fault::TOO_LONG;
+use format::fault::TOO_MANY;
+use format::limits::MOST_BYTES;
+use format::limits::MOST_ROWS;
+use format::limits::MOST_WORDS;
 use scan::Scanned;
 use scan::scan_message;
 
@@ -62,22 +68,22 @@ fn answered(number: usize, words: usize) -> Reading
 pub fn read(message: &[u8], table: &mut [u64]) -> Reading
     ensures { λ r. ⌜ readTold r (now (table .exit)) ≡ reading (now (message .entry)) (now (table .entry)) ⌝ }
 {
-    if message.len() > 65536 {
-        return answered(1, 0);
+    if message.len() > MOST_BYTES {
+        return answered(TOO_LONG, 0);
     }
     let scanned = scan_message(message);
     match scanned {
         Scanned::Refused(f) => refused(f),
         Scanned::Accepted(sum) => {
-            if sum.rows > 16384 {
-                return answered(10, 0);
+            if sum.rows > MOST_ROWS {
+                return answered(TOO_MANY, 0);
             }
-            if sum.words > 16384 {
-                return answered(10, 0);
+            if sum.words > MOST_WORDS {
+                return answered(TOO_MANY, 0);
             }
             let needed = 4 + 3 * sum.rows + sum.words;
             if table.len() < needed {
-                return answered(11, needed);
+                return answered(TABLE_SHORT, needed);
             }
             fill(message, table, sum.rows, sum.words);
             answered(0, needed)

@@ -2,6 +2,7 @@ pub mod Told
 pub mod KindsMet
 pub mod Leads
 pub mod SumLaws
+pub mod Closings
 pub mod Turns
 pub mod Stretches
 pub mod ObjectCases

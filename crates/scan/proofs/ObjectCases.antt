@@ -3,72 +3,33 @@ use Prim.Native.Nat.{ℕ, suc, _+_, _-_, _*_, _/_, _≤_, _<_}
 use native.Mathlib.Omega.{arith}
 use native.Mathlib.Numerals.{add-one}
 use mathlib.Core.Path.{_≡_, refl, sym, ap, ap₂, _∙_, subst}
-use mathlib.Core.Bool.{Bool, true, false}
 use mathlib.Core.List.{List}
-use lib.Dec.{eqb}
 use lib.ListN.{length, take, drop, length-drop}
 use lib.Seq.{length-take-le}
-use Rattle.format.specs.Choice.{pick, ifEq}
 use Rattle.format.specs.Bits.{spread, bytesFor, wordsFor}
 use Rattle.format.specs.declared.fault.Fault.{Fault}
-use Rattle.format.specs.Refusals.{here, further}
-use Rattle.format.specs.Tables.{isText}
-use Rattle.format.specs.Items.{Items, end, group, struc, edt, one, bits, groupKind, kinds, uniform, edtRule}
+use Rattle.format.specs.Refusals.{further}
+use Rattle.format.specs.Items.{Items, end, group, struc, one, bits}
 use Rattle.format.specs.Objects as O
-use Rattle.format.specs.Messages.{Outcome, Object, closing, around, object, reads}
+use Rattle.format.specs.Messages.{Outcome, around, object, reads}
 use Rattle.format.proofs.BitLaws.{spread-length, bytes-enough}
 use Rattle.format.proofs.Parts.{middle-part}
 use Rattle.format.proofs.Sizes.{contents-length}
-use Rattle.format.proofs.Steps.{objectAt}
+use Rattle.format.specs.Runs.{objectAt}
 use Rattle.wire.specs.declared.head.Wrap.{Wrap}
-use Rattle.wire.specs.declared.head.Wrap.the-variants.{Struc, Ustruc, Edt, Repeat}
 use Rattle.wire.specs.declared.head.Head.{Head}
-use Rattle.wire.specs.declared.head.Head.the-variants.{Stop, Gap, Row, Short, Long, Text, Open}
+use Rattle.wire.specs.declared.head.Head.the-variants.{Stop, Gap, Row, Sbits, Lbits, Text, Open}
 use Rattle.wire.specs.Heads.{HeadIs, BitsAt, markedWord, bitsFrom, wrapOf}
 use Rattle.scan.specs.declared.summary.Summary.{Summary}
 use Rattle.scan.specs.declared.Scanned.the-variants.{Refused, Accepted}
 use Rattle.scan.specs.declared.closing.Object as D
 use Rattle.scan.specs.declared.closing.Object.the-variants.{Bad, Got}
-use Rattle.scan.specs.Sums.{lead, sumOf, nothingOf, oneOf, textOf}
-use Rattle.scan.specs.Answer.{answer, answerObject, ustrucFault, edtFault, closedBy, closedOf}
-use Rattle.scan.proofs.KindsMet.{kinds-codes, several}
-use Rattle.scan.proofs.Leads.{edt-leads}
-use Rattle.scan.proofs.SumLaws.{sum-none, sum-row, sum-bits, sum-text, sum-group, sum-struc, sum-times}
+use Rattle.scan.specs.Sums.{sumOf, nothingOf, oneOf, textOf}
+use Rattle.scan.specs.Answer.{answer, answerObject, faultOf, wrappedOf, closedBy}
+use Rattle.scan.proofs.SumLaws.{sum-none, sum-row, sum-bits, sum-text}
+use Rattle.scan.proofs.Closings.{closed-answer}
 use Rattle.scan.proofs.Told.{refused-run, accepted-run}
 use Rattle.format.proofs.Bounds.{HeadWithin, head-within, RunWithin, reads-within}
-
--- ---- closing
-picked : (b : Bool) (x y : Object) → answerObject (pick b x y) ≡ pick b (answerObject x) (answerObject y)
-unfolding pick
-picked true x y = refl
-picked false x y = refl
-
-ustruc-by : (a x : Summary) (u : ℕ) → closedBy (ustrucFault a) x u ≡ ifEq (a .mix) 255 (Bad (here 8)) (Got x u)
-unfolding ifEq ustrucFault closedBy
-ustruc-by a x u = go (eqb (a .mix) 255)
-  where
-    go : (t : Bool) → closedBy (pick t 8 0) x u ≡ pick t (Bad (here 8)) (Got x u)
-    go true = refl
-    go false = refl
-
-edt-by : (a x : Summary) (u : ℕ) → closedBy (edtFault a) x u ≡ ifEq (a .second) 1 (ifEq (a .first) 1 (Got x u) (ifEq (a .first) 9 (Got x u) (Bad (here 9)))) (Bad (here 9))
-unfolding ifEq edtFault closedBy
-edt-by a x u = go (eqb (a .second) 1) (eqb (a .first) 1) (eqb (a .first) 9)
-  where
-    go : (r p q : Bool) → closedBy (pick r (pick p 0 (pick q 0 9)) 9) x u ≡ pick r (pick p (Got x u) (pick q (Got x u) (Bad (here 9)))) (Bad (here 9))
-    go false p q = refl
-    go true true q = refl
-    go true false true = refl
-    go true false false = refl
-
-pub closed-answer : (w : Wrap) (u : ℕ) (xs : Items) → answerObject (closing (wrapOf w) u xs) ≡ closedOf w (sumOf xs) u
-unfolding closing wrapOf closedOf answerObject sumOf uniform groupKind lead
-closed-answer Struc u xs = ap (λ a. Got a u) (sum-struc xs)
-closed-answer Ustruc u xs =
-    picked (uniform xs) _ _ ∙ ap (λ a. pick (uniform xs) (Got a u) (Bad (here 8))) (sum-struc xs) ∙ sym (several (kinds xs) _ _ (kinds-codes xs)) ∙ sym (ustruc-by (sumOf xs) _ u)
-closed-answer Edt u xs =
-    picked (edtRule xs) _ _ ∙ ap (λ a. pick (edtRule xs) (Got a u) (Bad (here 9))) (sum-group edt xs (unfold isText in refl)) ∙ sym (edt-leads xs _ _) ∙ sym (edt-by (sumOf xs) _ u)
-closed-answer (Repeat k) u xs = ap (λ a. Got a u) (sum-times k xs)
 
 -- ---- the cases of a head, as the code has them
 from-length : (s : List ℕ) (a n : ℕ) → a + bytesFor n ≤ length s → length (bitsFrom s a n) ≡ n
@@ -100,25 +61,25 @@ module _ (d b : ℕ) (s : List ℕ) (r : Head) (t : HeadIs s r (O.headOf d b s))
       let x = is (Row k v u) e in
       given (one (x .0)) u a (x .1) (f ∙ sym (sum-row (x .0) k (x .2 .kind) (x .2 .none)))
 
-  pub short-few : (n w u : ℕ) → r ≡ Short n w u → n ≤ 63
-  short-few n w u e = is (Short n w u) e .2 .few
+  pub sbits-few : (n w u : ℕ) → r ≡ Sbits n w u → n ≤ 63
+  sbits-few n w u e = is (Sbits n w u) e .2 .few
 
-  pub short-is : (n w u : ℕ) (a : Summary) → r ≡ Short n w u → a ≡ oneOf 2 1 (wordsFor n) → Got a u ≡ answerObject (objectAt d b s)
+  pub sbits-is : (n w u : ℕ) (a : Summary) → r ≡ Sbits n w u → a ≡ oneOf 2 1 (wordsFor n) → Got a u ≡ answerObject (objectAt d b s)
   unfolding wordsFor
-  short-is n w u a e f =
-      let x = is (Short n w u) e in
+  sbits-is n w u a e f =
+      let x = is (Sbits n w u) e in
       let g : (n + 63) / 64 ≤ 65536 = omega (arith, x .2 .few) in
       given (one (bits (x .0))) u a (x .1) (f ∙ sym (sum-bits (x .0) n (x .2 .many) g))
 
-  pub long-few : (a n u : ℕ) → r ≡ Long a n u → n ≤ 8 * length s
+  pub lbits-few : (a n u : ℕ) → r ≡ Lbits a n u → n ≤ 8 * length s
   unfolding bytesFor
-  long-few a n u e = let x = is (Long a n u) e in omega (arith, x .1, x .2)
+  lbits-few a n u e = let x = is (Lbits a n u) e in omega (arith, x .1, x .2)
 
-  pub long-is : (a n u : ℕ) (z : Summary) → length s ≤ 65536 → r ≡ Long a n u → z ≡ oneOf 2 1 (wordsFor n) → Got z u ≡ answerObject (objectAt d b s)
+  pub lbits-is : (a n u : ℕ) (z : Summary) → length s ≤ 65536 → r ≡ Lbits a n u → z ≡ oneOf 2 1 (wordsFor n) → Got z u ≡ answerObject (objectAt d b s)
   unfolding wordsFor
-  long-is a n u z h e f =
-      let x = is (Long a n u) e in
-      let g : (n + 63) / 64 ≤ 65536 = omega (arith, long-few a n u e) in
+  lbits-is a n u z h e f =
+      let x = is (Lbits a n u) e in
+      let g : (n + 63) / 64 ≤ 65536 = omega (arith, lbits-few a n u e) in
       given (one (bits (bitsFrom s a n))) u z (x .0) (f ∙ sym (sum-bits (bitsFrom s a n) n (from-length s a n (omega (arith, x .1, x .2))) g))
 
   pub text-fits : (a n : ℕ) → r ≡ Text a n → a + n ≤ length s
@@ -156,14 +117,14 @@ module _ (d b : ℕ) (s : List ℕ) (r : Head) (t : HeadIs s r (O.headOf d b s))
     unfolding around answerObject
     open-refused f y = sym (ap answerObject (open-as ∙ ap (around (wrapOf w) a n) (refused-run f inner y)))
 
-    pub open-accepted : (c : Summary) (o : D.Object) → Accepted c ≡ answer inner → o ≡ closedOf w c (a + n) → o ≡ answerObject (objectAt d b s)
+    pub open-accepted : (c : Summary) (o : D.Object) → Accepted c ≡ answer inner → o ≡ closedBy (faultOf w c) (wrappedOf w c) (a + n) → o ≡ answerObject (objectAt d b s)
     unfolding around
     open-accepted c o y f =
         let x = accepted-run c inner y in
-        f ∙ ap (λ z. closedOf w z (a + n)) (x .2) ∙ sym (closed-answer w (a + n) (x .0))
+        f ∙ ap (λ z. closedBy (faultOf w z) (wrappedOf w z) (a + n)) (x .2) ∙ sym (closed-answer w (a + n) (x .0))
         ∙ sym (ap answerObject (open-as ∙ ap (around (wrapOf w) a n) (x .1)))
 
 -- an SBITSTR that was told without its head
 pub bits-are : (d b : ℕ) (s : List ℕ) (n : ℕ) → BitsAt b s n → (a : Summary) → a ≡ oneOf 2 1 (wordsFor n) → (u : ℕ) → u ≡ O.following b → Got a u ≡ answerObject (objectAt d b s)
 bits-are d b s n h a f u e =
-    rw e (short-is d b s (Short n (markedWord b s n) (O.following b)) (h .head d) n (markedWord b s n) (O.following b) a refl f)
+    rw e (sbits-is d b s (Sbits n (markedWord b s n) (O.following b)) (h .head d) n (markedWord b s n) (O.following b) a refl f)

@@ -16,7 +16,7 @@ use Rattle.format.proofs.BitLaws.{packed-length}
 use Rattle.format.proofs.TableLaws.{string-rows, text-length}
 use Rattle.format.proofs.Counts.{times-zero, times-suc, join-end, words, rows-join, words-join, kinds-join, rows-times, words-times}
 use Rattle.scan.specs.declared.summary.Summary.{Summary}
-use Rattle.scan.specs.Sums.{capWords, capRows, mixOf, lead, sumOf, nothingOf, elementOf, oneOf, textOf, plusOf, secondSum, secondPower, powerOf, groupOf, strucOf}
+use Rattle.scan.specs.Sums.{capWords, capRows, mixOf, lead, sumOf, nothingOf, elementOf, oneOf, textOf, plusOf, secondSum, secondPower, powerOf, containerOf, strucOf}
 use Rattle.scan.proofs.KindsMet.{mixed-none, mix-append, mix-again}
 use Rattle.scan.proofs.Leads.{lead-join, second-join, lead-times, second-times, struc-lead}
 
@@ -49,7 +49,7 @@ unfolding sumOf
 sum-closed g xs r w a b = same-sum _ _ _ _ _ _ _ _ _ _ a b (mixed-none (groupKind g)) refl refl
 
 -- no string
-pub sum-group : (g : Group) (xs : Items) → isText g xs ≡ false → sumOf (group g xs end) ≡ groupOf (groupKind g) (lead (group g xs end)) (sumOf xs)
+pub sum-group : (g : Group) (xs : Items) → isText g xs ≡ false → sumOf (group g xs end) ≡ containerOf (groupKind g) (lead (group g xs end)) (sumOf xs)
 unfolding sumOf rows dataWords
 sum-group g xs t =
     let r : pick (isText g xs) 0 (rows xs) ≡ rows xs = pick-no (isText g xs) 0 (rows xs) t in
@@ -73,7 +73,7 @@ sum-struc xs =
     let l = struc-lead xs end in
     whether (isString xs)
     (λ t. sum-string xs t ∙ sym (ifEq-yes _ 9 _ _ (l ∙ pick-yes (isString xs) 9 7 t) ∙ rw e refl))
-    (λ t. sum-group struc xs t ∙ ap (λ m. groupOf 7 m (sumOf xs)) (sym l) ∙ sym (ifEq-no _ 9 _ _ (λ z. other (sym z ∙ l ∙ pick-no (isString xs) 9 7 t))))
+    (λ t. sum-group struc xs t ∙ ap (λ m. containerOf 7 m (sumOf xs)) (sym l) ∙ sym (ifEq-no _ 9 _ _ (λ z. other (sym z ∙ l ∙ pick-no (isString xs) 9 7 t))))
   where
     other : (_≡_ {A = ℕ} 9 7) → ⊥
     other z = omega arith

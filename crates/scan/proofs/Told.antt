@@ -5,7 +5,6 @@ use mathlib.Core.Path.{_≡_, refl, sym, ap}
 use Rattle.format.specs.declared.fault.Fault.{Fault}
 use Rattle.format.specs.Items.{Items}
 use Rattle.format.specs.Messages.{Outcome, refused, says, Object, bad, got}
-use Rattle.format.specs.Tables.{rows}
 use Rattle.scan.specs.declared.summary.Summary.{Summary}
 use Rattle.scan.specs.declared.Scanned.the-variants.{Refused, Accepted}
 use Rattle.scan.specs.declared.closing.Object.the-variants.{Bad, Got}

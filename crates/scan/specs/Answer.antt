@@ -23,7 +23,7 @@ unfolding sumOf
 answerObject (M.bad f) = Bad f
 answerObject (M.got xs u) = Got (sumOf xs) u
 
--- the refusal of a container for the kinds of its elements, or 0
+-- the refusal of a USTRUC, of an EDT and of any container for the kinds of its elements, or 0
 unfoldable pub ustrucFault : Summary → ℕ
 unfolding ifEq
 ustrucFault a = ifEq (a .mix) 255 several-kinds 0
@@ -32,15 +32,22 @@ unfoldable pub edtFault : Summary → ℕ
 unfolding ifEq
 edtFault a = ifEq (a .second) INT (ifEq (a .first) INT 0 (ifEq (a .first) STRING 0 bad-edt)) bad-edt
 
--- a container, from its refusal or 0 and the item that it is; `u` are its bytes past the type-byte
+unfoldable pub faultOf : Wrap → Summary → ℕ
+unfolding ustrucFault edtFault
+faultOf Struc a = 0
+faultOf Ustruc a = ustrucFault a
+faultOf Edt a = edtFault a
+faultOf (Repeat k) a = 0
+
+-- what a container comes to that has no such fault
+unfoldable pub wrappedOf : Wrap → Summary → Summary
+unfolding strucOf powerOf
+wrappedOf Struc a = strucOf a
+wrappedOf Ustruc a = strucOf a
+wrappedOf Edt a = edtOf a
+wrappedOf (Repeat k) a = powerOf k a
+
+-- a container, from its refusal or 0 and what it comes to; `u` are its bytes past the type-byte
 unfoldable pub closedBy : ℕ → Summary → ℕ → Object
 unfolding ifEq
-closedBy f x u = ifEq f 0 (Got x u) (Bad (here f))
-
--- a container, from what its contents come to
-unfoldable pub closedOf : Wrap → Summary → ℕ → Object
-unfolding strucOf ustrucFault edtFault closedBy powerOf
-closedOf Struc a u = Got (strucOf a) u
-closedOf Ustruc a u = closedBy (ustrucFault a) (strucOf a) u
-closedOf Edt a u = closedBy (edtFault a) (edtOf a) u
-closedOf (Repeat k) a u = Got (powerOf k a) u
+closedBy f a u = ifEq f 0 (Got a u) (Bad (here f))

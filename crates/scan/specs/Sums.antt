@@ -108,13 +108,13 @@ unfolding ifEq
 strucLead m = ifEq m 0 STRING (ifEq m CHAR STRING STRUC)
 
 -- a container of kind k, the lead l
-abbrev pub groupOf : ℕ → ℕ → Summary → Summary
-groupOf k l a = elementOf k l (capRows (capRows (a .rows) + capRows 1)) (capWords (a .words))
+abbrev pub containerOf : ℕ → ℕ → Summary → Summary
+containerOf k l a = elementOf k l (capRows (capRows (a .rows) + capRows 1)) (capWords (a .words))
 
 -- a STRUC: of a string the rows so far are its characters
 unfoldable pub strucOf : Summary → Summary
 unfolding ifEq strucLead textOf
-strucOf a = ifEq (strucLead (a .mix)) STRING (textOf (capRows (a .rows))) (groupOf STRUC (strucLead (a .mix)) a)
+strucOf a = ifEq (strucLead (a .mix)) STRING (textOf (capRows (a .rows))) (containerOf STRUC (strucLead (a .mix)) a)
 
 abbrev pub edtOf : Summary → Summary
-edtOf a = groupOf EDT EDT a
+edtOf a = containerOf EDT EDT a

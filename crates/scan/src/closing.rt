@@ -1,10 +1,7 @@
 // How a container closes over what its contents come to.
 ghost use mathlib.Core.Path.{_≡_};
-ghost use Rattle.scan.specs.Answer.{ustrucFault, edtFault, closedBy, closedOf};
-ghost use Rattle.scan.specs.Shorts.{faultOf, textFault, shortGroup};
-use super::summary::INT;
+ghost use Rattle.scan.specs.Answer.{ustrucFault, edtFault, faultOf, wrappedOf, closedBy};
 use super::summary::SEVERAL;
-use super::summary::STRING;
 use super::summary::Summary;
 use super::summary::edt;
 use super::summary::power;
@@ -13,9 +10,9 @@ use format::fault::BAD_EDT;
 use format::fault::Fault;
 use format::fault::SEVERAL_KINDS;
 use format::fault::here;
+use format::kinds::INT;
+use format::kinds::STRING;
 use wire::head::Wrap;
-use wire::short::is_edt;
-use wire::short::is_ustruc;
 
 // What an object comes to: its refusal, the place from the type-byte on; or its items' summary and its bytes past the type-byte.
 pub enum Object {
@@ -46,53 +43,42 @@ fn edt_fault(a: Summary) -> usize
     BAD_EDT
 }
 
-// The number with which a container of the type-byte C2, C5 or C3 is refused for the kinds of its elements, or 0.
-pub fn fault_of(b: u8, a: Summary) -> usize
-    ensures { λ r. ⌜ r ≡ faultOf b a ⌝ }
+// The number with which a container is refused for the kinds of its elements, or 0.
+pub fn fault_of(w: Wrap, a: Summary) -> usize
+    ensures { λ r. ⌜ r ≡ faultOf w a ⌝ }
 {
-    if is_edt(b) {
-        return edt_fault(a);
+    match w {
+        Wrap::Struc => 0,
+        Wrap::Ustruc => ustruc_fault(a),
+        Wrap::Edt => edt_fault(a),
+        Wrap::Repeat(_k) => 0,
     }
-    if is_ustruc(b) {
-        return ustruc_fault(a);
-    }
-    0
 }
 
-// The same of one whose elements are all CHARs.
-pub fn text_fault(b: u8) -> usize
-    ensures { λ r. ⌜ r ≡ textFault b ⌝ }
+// What a container comes to that has no fault.
+pub fn wrapped(w: Wrap, a: Summary) -> Summary
+    ensures { λ r. ⌜ r ≡ wrappedOf w a ⌝ }
 {
-    if is_edt(b) { BAD_EDT } else { 0 }
-}
-
-// The item that such a container is.
-pub fn group_of(b: u8, a: Summary) -> Summary
-    ensures { λ r. ⌜ r ≡ shortGroup b a ⌝ }
-{
-    if is_edt(b) {
-        return edt(a);
+    match w {
+        Wrap::Repeat(k) => power(k, a),
+        Wrap::Edt => edt(a),
+        Wrap::Ustruc => struc(a),
+        Wrap::Struc => struc(a),
     }
-    struc(a)
 }
 
-// A container that is the item `one`, if it has no fault.
-fn closed_by(fault: usize, one: Summary, past: usize) -> Object
-    ensures { λ r. ⌜ r ≡ closedBy fault one past ⌝ }
+// A container that comes to a, if it has no fault.
+fn closed_by(fault: usize, a: Summary, past: usize) -> Object
+    ensures { λ r. ⌜ r ≡ closedBy fault a past ⌝ }
 {
     if fault != 0 {
         return Object::Bad(here(fault));
     }
-    Object::Got(one, past)
+    Object::Got(a, past)
 }
 
 pub fn closed(w: Wrap, a: Summary, past: usize) -> Object
-    ensures { λ r. ⌜ r ≡ closedOf w a past ⌝ }
+    ensures { λ r. ⌜ r ≡ closedBy (faultOf w a) (wrappedOf w a) past ⌝ }
 {
-    match w {
-        Wrap::Struc => Object::Got(struc(a), past),
-        Wrap::Ustruc => closed_by(ustruc_fault(a), struc(a), past),
-        Wrap::Edt => closed_by(edt_fault(a), edt(a), past),
-        Wrap::Repeat(k) => Object::Got(power(k, a), past),
-    }
+    closed_by(fault_of(w, a), wrapped(w, a), past)
 }

@@ -3,9 +3,10 @@ ghost use mathlib.Core.Path.{_≡_};
 ghost use Prim.Native.Nat.{_+_, _≤_, _<_};
 ghost use lib.ListN.{length};
 ghost use Rattle.format.specs.Messages.{reads, outcome};
-ghost use Rattle.format.proofs.Steps.{objectAt};
+ghost use Rattle.format.specs.Runs.{objectAt};
 ghost use Rattle.scan.specs.Answer.{answer, answerObject};
 ghost use Rattle.scan.specs.Shorts.{shortObject, asObject};
+ghost use Rattle.format.specs.Refusals.{byteLimit, depthLimit};
 
 mod closing;
 mod stretch;
@@ -14,11 +15,11 @@ pub mod summary;
 use closing::Object;
 use closing::closed;
 use closing::fault_of;
-use closing::group_of;
-use closing::text_fault;
+use closing::wrapped;
 use format::fault::Fault;
 use format::fault::further;
 use format::fault::here;
+use format::kinds::CHAR;
 use format::tree::is_non_atomic;
 use stretch::all_chars;
 use stretch::leap_from;
@@ -29,12 +30,13 @@ use summary::one_of;
 use summary::plus;
 use summary::plus_many;
 use summary::text_of;
-use wire::bits::short_bits;
+use wire::bits::sbits_of;
 use wire::head::Head;
 use wire::head::head_of;
 use wire::integer::following_of;
 use wire::short::is_string;
 use wire::short::short_size;
+use wire::short::wrap_by;
 
 // What a run of objects comes to: its refusal, or its items' summary.
 pub enum Scanned {
@@ -46,7 +48,7 @@ pub enum Scanned {
 // non-atomic objects those with a size of one byte, as most have, are tried first, of the others stretches; what is neither goes
 // by its head.
 fn scan_run(depth: usize, s: &[u8]) -> Scanned
-    requires { ⌜ (length (now s) ≤ 65536) × (depth ≤ 16) ⌝ }
+    requires { ⌜ (length (now s) ≤ byteLimit) × (depth ≤ depthLimit) ⌝ }
     ensures { λ r. ⌜ r ≡ answer (reads depth (now (s .entry))) ⌝ }
 {
     let mut i: usize = 0;
@@ -81,17 +83,17 @@ fn scan_run(depth: usize, s: &[u8]) -> Scanned
             Object::Bad(f) => return Scanned::Refused(further(i, f)),
             Object::Got(one, past) => {
                 sum = plus(sum, one);
-                i += 1 + past;
+                i = behind + past;
             }
         }
     }
     Scanned::Accepted(sum)
 }
 
-// The STRUC, USTRUC, EDT or STRING of the type-byte b whose contents are c and whose size is one byte. It is one item; the place
-// of a refusal is from the type-byte on.
+// The STRUC, USTRUC, EDT or STRING of the type-byte b whose contents are c and whose size is one byte. The place of a refusal is
+// from the type-byte on. A container of CHARs alone is a string, and refused as it would be for one CHAR.
 fn scan_short(depth: usize, b: u8, c: &[u8]) -> Scanned
-    requires { ⌜ (0 < length (now c)) × (length (now c) ≤ 127) × (depth < 16) ⌝ }
+    requires { ⌜ (0 < length (now c)) × (length (now c) ≤ 127) × (depth < depthLimit) ⌝ }
     ensures { λ r. ⌜ asObject (1 + length (now (c .entry))) r ≡ answerObject (shortObject depth b (now (c .entry))) ⌝ }
 {
     let n = c.len();
@@ -99,7 +101,7 @@ fn scan_short(depth: usize, b: u8, c: &[u8]) -> Scanned
         return Scanned::Accepted(text_of(n));
     }
     if all_chars(c) {
-        let fault = text_fault(b);
+        let fault = fault_of(wrap_by(b), one_of(CHAR, 1, 0));
         if fault != 0 {
             return Scanned::Refused(here(fault));
         }
@@ -109,11 +111,12 @@ fn scan_short(depth: usize, b: u8, c: &[u8]) -> Scanned
     match r {
         Scanned::Refused(f) => Scanned::Refused(further(2, f)),
         Scanned::Accepted(sum) => {
-            let fault = fault_of(b, sum);
+            let w = wrap_by(b);
+            let fault = fault_of(w, sum);
             if fault != 0 {
                 return Scanned::Refused(here(fault));
             }
-            Scanned::Accepted(group_of(b, sum))
+            Scanned::Accepted(wrapped(w, sum))
         }
     }
 }
@@ -121,10 +124,10 @@ fn scan_short(depth: usize, b: u8, c: &[u8]) -> Scanned
 // The object whose type-byte is b; s are the bytes behind it, up to the end of the enclosing object or of the input. An SBITSTR is
 // tried first: its head would be written to memory and read again.
 fn scan_object(depth: usize, b: u8, s: &[u8]) -> Object
-    requires { ⌜ (length (now s) ≤ 65536) × (depth ≤ 16) ⌝ }
+    requires { ⌜ (length (now s) ≤ byteLimit) × (depth ≤ depthLimit) ⌝ }
     ensures { λ r. ⌜ r ≡ answerObject (objectAt depth b (now (s .entry))) ⌝ }
 {
-    let bits = short_bits(b, s);
+    let bits = sbits_of(b, s);
     if bits > 0 {
         return Object::Got(bits_of(bits - 1), following_of(b));
     }
@@ -132,9 +135,9 @@ fn scan_object(depth: usize, b: u8, s: &[u8]) -> Object
     match h {
         Head::Stop(f) => Object::Bad(f),
         Head::Gap => Object::Got(nothing(), 0),
-        Head::Row(kind, _, past) => Object::Got(one_of(kind as usize, 1, 0), past),
-        Head::Short(n, _, past) => Object::Got(bits_of(n), past),
-        Head::Long(_, n, past) => Object::Got(bits_of(n), past),
+        Head::Row(kind, _, past) => Object::Got(one_of(kind, 1, 0), past),
+        Head::Sbits(n, _, past) => Object::Got(bits_of(n), past),
+        Head::Lbits(_, n, past) => Object::Got(bits_of(n), past),
         Head::Text(a, n) => Object::Got(text_of(n), a + n),
         Head::Open(w, a, n) => {
             let e = a + n;
@@ -149,7 +152,7 @@ fn scan_object(depth: usize, b: u8, s: &[u8]) -> Object
 
 // A whole message: a run with no container around it.
 pub fn scan_message(message: &[u8]) -> Scanned
-    requires { ⌜ length (now message) ≤ 65536 ⌝ }
+    requires { ⌜ length (now message) ≤ byteLimit ⌝ }
     ensures { λ r. ⌜ r ≡ answer (outcome (now (message .entry))) ⌝ }
 {
     scan_run(0, message)

@@ -4,14 +4,14 @@ ghost use mathlib.Core.Bool.{true};
 ghost use Prim.Native.Nat.{_+_, _≤_, _<_};
 ghost use lib.ListN.{length};
 ghost use Rattle.format.specs.Objects.{following};
-ghost use Rattle.wire.specs.Ranges.{Between};
-ghost use Rattle.scan.specs.Stretch.{Counted, Leapt};
-use super::summary::BOOL;
-use super::summary::CHAR;
-use super::summary::EMPTY;
-use super::summary::INT;
-use super::summary::XTRA;
+ghost use Rattle.wire.specs.Ranges.{Between, Ranged};
+ghost use Rattle.scan.specs.Stretch.{Integers, Leapt};
 use format::Class;
+use format::kinds::BOOL;
+use format::kinds::CHAR;
+use format::kinds::EMPTY;
+use format::kinds::INT;
+use format::kinds::XTRA;
 use format::tree::class_of;
 use wire::integer::following_of;
 use wire::integer::is_linteger;
@@ -24,7 +24,7 @@ use wire::span::until;
 // Where a stretch ends, and how many items of what kind it is.
 pub struct Leap {
     pub upto: usize,
-    pub kind: usize,
+    pub kind: u64,
     pub many: usize,
 }
 
@@ -34,7 +34,7 @@ struct Ints {
     many: usize,
 }
 
-fn stretch_to(upto: usize, kind: usize, many: usize) -> Leap
+fn stretch_to(upto: usize, kind: u64, many: usize) -> Leap
     ensures { λ r. ⌜ r ≡ record { upto = upto; kind = kind; many = many } ⌝ }
 {
     Leap { upto, kind, many }
@@ -43,7 +43,7 @@ fn stretch_to(upto: usize, kind: usize, many: usize) -> Leap
 // The LINTEGERs from i on that have the type-byte b, of which each has `size` bytes.
 fn same_ints(s: &[u8], i: usize, b: u8, size: usize) -> Ints
     requires { ⌜ (i ≤ length (now s)) × (0xe0 ≤ b) × (b ≤ 0xe7) × (size ≡ 1 + following b) ⌝ }
-    ensures { λ r. ⌜ Counted (now (s .entry)) i (r .upto) (r .many) ⌝ }
+    ensures { λ r. ⌜ Integers (now (s .entry)) i (r .upto) (r .many) ⌝ }
 {
     let mut e = i;
     let mut many: usize = 0;
@@ -61,7 +61,7 @@ fn same_ints(s: &[u8], i: usize, b: u8, size: usize) -> Ints
 // none.
 fn smalls_end(s: &[u8], i: usize) -> usize
     requires { ⌜ i ≤ length (now s) ⌝ }
-    ensures { λ r. ⌜ (i ≤ r) × (r ≤ length (now (s .entry))) × Between 0x80 0xbf i r (now (s .entry)) ⌝ }
+    ensures { λ r. ⌜ Ranged 0x80 0xbf i r (now (s .entry)) ⌝ }
 {
     if s.len() - i < 64 {
         return i;
@@ -80,7 +80,7 @@ fn smalls_end(s: &[u8], i: usize) -> usize
 // type-byte are passed together.
 fn ints_from(s: &[u8], i: usize) -> Ints
     requires { ⌜ i ≤ length (now s) ⌝ }
-    ensures { λ r. ⌜ Counted (now (s .entry)) i (r .upto) (r .many) ⌝ }
+    ensures { λ r. ⌜ Integers (now (s .entry)) i (r .upto) (r .many) ⌝ }
 {
     let mut e = i;
     let mut many: usize = 0;

@@ -2,36 +2,21 @@
 ghost use mathlib.Core.Path.{_≡_};
 ghost use Prim.Native.Nat.{_+_, _*_, _/_, _≤_, min};
 ghost use Rattle.format.specs.Bits.{wordsFor};
-ghost use Rattle.scan.specs.Sums.{mixed, orElse, secondSum, secondPower, nothingOf, elementOf, oneOf, textOf, plusOf, powerOf, strucLead, groupOf, strucOf, edtOf};
-
-// The kinds, as the table has them.
-pub const INT: usize = 1;
-
-pub const BITS: usize = 2;
-
-pub const CHAR: usize = 3;
-
-pub const BOOL: usize = 4;
-
-pub const EMPTY: usize = 5;
-
-pub const XTRA: usize = 6;
-
-pub const STRUC: usize = 7;
-
-pub const EDT: usize = 8;
+ghost use Rattle.scan.specs.Sums.{mixed, orElse, secondSum, secondPower, nothingOf, elementOf, oneOf, textOf, plusOf, powerOf, strucLead, containerOf, strucOf, edtOf};
+use format::kinds::BITS;
+use format::kinds::CHAR;
+use format::kinds::EDT;
+use format::kinds::STRING;
+use format::kinds::STRUC;
 
 // In the place of a kind met: more than one.
-pub const SEVERAL: usize = 255;
-
-// In the place of a lead's kind: a string.
-pub const STRING: usize = 9;
+pub const SEVERAL: u64 = 255;
 
 // Data words are counted so far and no further, and rows eight times as far: the characters of a string are a row each until it
 // closes, and then eight of them are a word.
-const MOST_WORDS: usize = 65536;
+const WORDS_COUNTED: usize = 65536;
 
-const MOST_ROWS: usize = 524288;
+const ROWS_COUNTED: usize = 524288;
 
 // What is told of a run of elements.
 // For the table: `rows` and `words`, the data words.
@@ -41,9 +26,9 @@ const MOST_ROWS: usize = 524288;
 pub struct Summary {
     pub rows: usize,
     pub words: usize,
-    pub mix: usize,
-    pub first: usize,
-    pub second: usize,
+    pub mix: u64,
+    pub first: u64,
+    pub second: u64,
 }
 
 fn capped(n: usize, most: usize) -> usize
@@ -67,7 +52,7 @@ fn product_capped(a: usize, b: usize, most: usize) -> usize
 }
 
 // The kinds met of two runs together.
-fn mixed_of(a: usize, b: usize) -> usize
+fn mixed_of(a: u64, b: u64) -> u64
     ensures { λ r. ⌜ r ≡ mixed a b ⌝ }
 {
     if a == 0 {
@@ -83,14 +68,14 @@ fn mixed_of(a: usize, b: usize) -> usize
 }
 
 // The first, unless it is 0.
-fn or_else(a: usize, b: usize) -> usize
+fn or_else(a: u64, b: u64) -> u64
     ensures { λ r. ⌜ r ≡ orElse a b ⌝ }
 {
     if a == 0 { b } else { a }
 }
 
 // The second lead of one run after another.
-fn second_of(a: Summary, b: Summary) -> usize
+fn second_of(a: Summary, b: Summary) -> u64
     ensures { λ r. ⌜ r ≡ secondSum a b ⌝ }
 {
     if a.first == 0 {
@@ -113,7 +98,7 @@ pub fn nothing() -> Summary
 }
 
 // One element of a kind, which is such a lead, with the rows and the data words that it has.
-fn element(kind: usize, lead: usize, rows: usize, words: usize) -> Summary
+fn element(kind: u64, lead: u64, rows: usize, words: usize) -> Summary
     ensures { λ r. ⌜ r ≡ elementOf kind lead rows words ⌝ }
 {
     Summary {
@@ -126,7 +111,7 @@ fn element(kind: usize, lead: usize, rows: usize, words: usize) -> Summary
 }
 
 // One that has no elements itself: its kind is all that an EDT asks.
-pub fn one_of(kind: usize, rows: usize, words: usize) -> Summary
+pub fn one_of(kind: u64, rows: usize, words: usize) -> Summary
     ensures { λ r. ⌜ r ≡ oneOf kind rows words ⌝ }
 {
     element(kind, kind, rows, words)
@@ -153,8 +138,8 @@ pub fn plus(a: Summary, b: Summary) -> Summary
     ensures { λ r. ⌜ r ≡ plusOf a b ⌝ }
 {
     Summary {
-        rows: sum_capped(a.rows, b.rows, MOST_ROWS),
-        words: sum_capped(a.words, b.words, MOST_WORDS),
+        rows: sum_capped(a.rows, b.rows, ROWS_COUNTED),
+        words: sum_capped(a.words, b.words, WORDS_COUNTED),
         mix: mixed_of(a.mix, b.mix),
         first: or_else(a.first, b.first),
         second: second_of(a, b),
@@ -162,7 +147,7 @@ pub fn plus(a: Summary, b: Summary) -> Summary
 }
 
 // The second lead of a run that stands k times, k not 0: two of them settle it.
-fn second_power(k: usize, a: Summary) -> usize
+fn second_power(k: usize, a: Summary) -> u64
     ensures { λ r. ⌜ r ≡ secondPower k a ⌝ }
 {
     if k == 1 {
@@ -179,8 +164,8 @@ pub fn power(k: usize, a: Summary) -> Summary
         return nothing();
     }
     Summary {
-        rows: product_capped(k, a.rows, MOST_ROWS),
-        words: product_capped(k, a.words, MOST_WORDS),
+        rows: product_capped(k, a.rows, ROWS_COUNTED),
+        words: product_capped(k, a.words, WORDS_COUNTED),
         mix: a.mix,
         first: a.first,
         second: second_power(k, a),
@@ -188,14 +173,14 @@ pub fn power(k: usize, a: Summary) -> Summary
 }
 
 // A run, and then so many items of a kind that have one row each and no data words.
-pub fn plus_many(a: Summary, kind: usize, many: usize) -> Summary
+pub fn plus_many(a: Summary, kind: u64, many: usize) -> Summary
     ensures { λ r. ⌜ r ≡ plusOf a (powerOf many (oneOf kind 1 0)) ⌝ }
 {
     plus(a, power(many, one_of(kind, 1, 0)))
 }
 
 // A STRUC whose elements are all CHAR, the empty one included, is a string. Told from the kinds met.
-fn struc_lead(mix: usize) -> usize
+fn struc_lead(mix: u64) -> u64
     ensures { λ r. ⌜ r ≡ strucLead mix ⌝ }
 {
     if mix == 0 {
@@ -208,14 +193,14 @@ fn struc_lead(mix: usize) -> usize
 }
 
 // A container of a kind, which is such a lead, around elements that come to a.
-fn group(kind: usize, lead: usize, a: Summary) -> Summary
-    ensures { λ r. ⌜ r ≡ groupOf kind lead a ⌝ }
+fn container(kind: u64, lead: u64, a: Summary) -> Summary
+    ensures { λ r. ⌜ r ≡ containerOf kind lead a ⌝ }
 {
     element(
         kind,
         lead,
-        sum_capped(a.rows, 1, MOST_ROWS),
-        capped(a.words, MOST_WORDS),
+        sum_capped(a.rows, 1, ROWS_COUNTED),
+        capped(a.words, WORDS_COUNTED),
     )
 }
 
@@ -225,13 +210,13 @@ pub fn struc(a: Summary) -> Summary
 {
     let lead = struc_lead(a.mix);
     if lead == STRING {
-        return text_of(capped(a.rows, MOST_ROWS));
+        return text_of(capped(a.rows, ROWS_COUNTED));
     }
-    group(STRUC, lead, a)
+    container(STRUC, lead, a)
 }
 
 pub fn edt(a: Summary) -> Summary
     ensures { λ r. ⌜ r ≡ edtOf a ⌝ }
 {
-    group(EDT, EDT, a)
+    container(EDT, EDT, a)
 }

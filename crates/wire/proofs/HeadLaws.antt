@@ -2,7 +2,6 @@
 use Prim.Native.Nat.{ℕ, zero, suc, _+_, _-_, _*_, _%_, _^_, _≤_, _<_}
 use mathlib.Core.Path.{_≡_, refl, sym, ap, _∙_, subst}
 use mathlib.Core.Logic.{_≢_}
-use mathlib.Core.Bool.{Bool}
 use mathlib.Core.List.{List, [], _∷_}
 use native.Mathlib.Omega.{arith}
 use lib.Count.{leadingZeros}
@@ -23,16 +22,21 @@ use Rattle.format.proofs.Choices.{ifLt-yes, ifLt-no, ifEq-yes, ifEq-no, split-e
 use Rattle.format.proofs.Digits.{bytes-take}
 use Rattle.format.proofs.BitLaws.{bit-isOne}
 use Rattle.format.proofs.Parts.{middle-part, drop-take}
+use Rattle.format.proofs.Sizes.{contents-length}
 use Rattle.format.proofs.TypeBytes.{InClass, following-range}
-use Rattle.wire.specs.declared.size.Extent.the-variants.{Past, Within}
+use Rattle.wire.specs.declared.size.Extent.{Extent}
+use Rattle.wire.specs.declared.size.Extent.the-variants.{Wanting, Within}
 use Rattle.wire.specs.declared.head.Wrap.{Wrap}
+use Rattle.wire.specs.declared.head.Wrap.the-variants.{Repeat}
+use Rattle.wire.specs.declared.head.Contained.{Contained}
 use Rattle.wire.specs.declared.head.Contained.the-variants.{Outside, Inside}
+use Rattle.wire.specs.declared.head.Counted.{Counted}
 use Rattle.wire.specs.declared.head.Counted.the-variants.{Wrong, Right}
 use Rattle.wire.specs.declared.head.Head.{Head}
-use Rattle.wire.specs.declared.head.Head.the-variants.{Stop, Gap, Row, Short, Text, Open}
+use Rattle.wire.specs.declared.head.Head.the-variants.{Stop, Gap, Row, Sbits, Text, Open}
 use Rattle.wire.specs.Extents.{ExtentIs}
-use Rattle.wire.specs.Heads.{CountedIs, ContainedIs, HeadIs, IsRow, wrapOf, longBits, bitsFrom}
-use Rattle.wire.proofs.ShortBits.{stream, short-is}
+use Rattle.wire.specs.Heads.{CountedIs, ContainedIs, HeadIs, IsRow, wrapOf, lbitsOf, bitsFrom}
+use Rattle.wire.proofs.Sbits.{stream, sbits-is}
 
 -- ---- one byte
 pub row-is : (l : Leaf) (k v : ℕ) → leafKind l ≡ k → leafA l ≡ 0 → ((d : ℕ) → leafB d l ≡ v) → leafWords l ≡ [] → IsRow l k v
@@ -43,7 +47,7 @@ pub char-row : (d b : ℕ) (s : List ℕ) → HeadIs s (Row 3 b 0) (O.headBy C.C
 unfolding O.headBy leafKind leafA leafB leafWords
 char-row d b s = (char b, refl, row-is (char b) 3 b refl refl (λ e. refl) refl)
 
-pub int-row : (z : ℤ) (v : ℕ) → twos 8 z ≡ v → IsRow (int z) 1 v
+int-row : (z : ℤ) (v : ℕ) → twos 8 z ≡ v → IsRow (int z) 1 v
 unfolding leafKind leafA leafB leafWords
 int-row z v e = row-is (int z) 1 v refl refl (λ d. e) refl
 
@@ -85,16 +89,16 @@ unfolding O.headBy
 reserved-stop d b s = refl
 
 -- ---- bytes of a number that the type-byte tells
-pub past-outer : O.past 0 ≡ 2
-unfolding O.past
+pub past-outer : O.pastEnd 0 ≡ 2
+unfolding O.pastEnd
 past-outer = refl
 
-pub past-inner : (d : ℕ) → d ≢ 0 → O.past d ≡ 3
-unfolding O.past
+pub past-inner : (d : ℕ) → d ≢ 0 → O.pastEnd d ≡ 3
+unfolding O.pastEnd
 past-inner zero n = absurd (n refl)
 past-inner (suc d) n = refl
 
-pub fixed-stop : (d b k : ℕ) (s : List ℕ) (f : List ℕ → O.Head) (x : Fault) → k ≡ O.following b → length s < k → x ≡ wants (O.past d) (k - length s)
+pub fixed-stop : (d b k : ℕ) (s : List ℕ) (f : List ℕ → O.Head) (x : Fault) → k ≡ O.following b → length s < k → x ≡ wants (O.pastEnd d) (k - length s)
     → O.fixed d (O.following b) s f ≡ O.stop x
 unfolding O.fixed
 fixed-stop d b k s f x ek h e = ifLt-yes (length s) (O.following b) _ _ (rw ek at h) ∙ ap O.stop (sym (rw ek at e))
@@ -137,15 +141,15 @@ pub sbitstr-bad : (d b k : ℕ) (s : List ℕ) → k ≡ O.following b → k ≤
 sbitstr-bad d b k s ek h e =
     sbitstr-go d b k s ek h ∙ sbitstr-zero (take k s) (getD-take k s 0 0 (omega (arith, following-range b .0)) ∙ e)
 
-pub sbitstr-short : (d b k n v w : ℕ) (s : List ℕ) → Bytes s → k ≡ O.following b → k ≤ length s → getD s 0 0 ≢ 0 → n ≡ 8 * k - 1 - leadingZeros 8 (getD s 0 0)
-    → v ≡ val (take k s) → (n ≡ 0 → w ≡ 0) → (0 < n → w ≡ v * 2 ^ (64 - n) % 2 ^ 64) → HeadIs s (Short n w k) (O.headBy C.Sbitstr d b s)
-sbitstr-short d b k n v w s hb ek h z en ev w0 w1 =
+pub sbitstr-sbits : (d b k n v w : ℕ) (s : List ℕ) → Bytes s → k ≡ O.following b → k ≤ length s → getD s 0 0 ≢ 0 → n ≡ 8 * k - 1 - leadingZeros 8 (getD s 0 0)
+    → v ≡ val (take k s) → (n ≡ 0 → w ≡ 0) → (0 < n → w ≡ v * 2 ^ (64 - n) % 2 ^ 64) → HeadIs s (Sbits n w k) (O.headBy C.Sbitstr d b s)
+sbitstr-sbits d b k n v w s hb ek h z en ev w0 w1 =
     let f = following-range b in
     let e0 : getD (take k s) 0 0 ≡ getD s 0 0 = getD-take k s 0 0 (omega arith) in
     let el : length (take k s) ≡ k = length-take-le k s h in (
       stream (take k s),
       sbitstr-go d b k s ek h ∙ sbitstr-bits (take k s) (omega arith) (λ e. z (sym e0 ∙ e)) ∙ ap (O.gives (one (bits (stream (take k s))))) el,
-      short-is (take k s) k (getD s 0 0) n v w (bytes-take k s hb) el (omega arith) (omega arith) (sym e0) z en ev w0 w1,
+      sbits-is (take k s) k (getD s 0 0) n v w (bytes-take k s hb) el (omega arith) (omega arith) (sym e0) z en ev w0 w1,
     )
 
 -- ---- a length or a count
@@ -153,9 +157,9 @@ pub count-absent : (why h : ℕ) (s : List ℕ) (x : Fault) → x ≡ here why �
 unfolding O.counted
 count-absent why h s x ex e = λ f. rw e (ap O.stop (sym ex))
 
-pub count-short : (why h p k : ℕ) (s : List ℕ) (x : Fault) → x ≡ further (1 + h + p) (wants 3 k) → O.leading s ≡ O.short p k → CountedIs why h s (Wrong x)
+pub count-cut : (why h p k : ℕ) (s : List ℕ) (x : Fault) → x ≡ further (1 + h + p) (wants 3 k) → O.leading s ≡ O.cutInt p k → CountedIs why h s (Wrong x)
 unfolding O.counted
-count-short why h p k s x ex e = λ f. rw e (ap O.stop (sym ex))
+count-cut why h p k s x ex e = λ f. rw e (ap O.stop (sym ex))
 
 pub count-negative : (why h m u : ℕ) (s : List ℕ) (x : Fault) → x ≡ here why → O.leading s ≡ O.found (negsuc m) u → CountedIs why h s (Wrong x)
 unfolding O.counted
@@ -165,17 +169,7 @@ pub count-right : (why h n u : ℕ) (s : List ℕ) → O.leading s ≡ O.found (
 unfolding O.counted
 count-right why h n u s e g l = (λ f. rw e refl, l, g)
 
--- ---- LBITSTR
-pub lbitstr-past : (d k : ℕ) (s : List ℕ) (x : Fault) → x ≡ wants (O.past d) k → ExtentIs s (Past k) → HeadIs s (Stop x) (O.headBy C.Lbitstr d 0xc1 s)
-unfolding O.headBy O.lbitstrHead
-lbitstr-past d k s x ex e = e d _ ∙ ap O.stop (sym ex)
-
-lbitstr-in : (d h n : ℕ) (s : List ℕ) → ExtentIs s (Within h n)
-    → O.headBy C.Lbitstr d 0xc1 s ≡ O.counted 6 h (O.lbitstr (O.contents s h n) (h + n)) (O.leading (O.contents s h n))
-unfolding O.headBy O.lbitstrHead
-lbitstr-in d h n s x = x .0 d _
-
--- contents as the code lends them on
+-- ---- contents as the code lends them on, with a length or a count at their front
 lent : (s : List ℕ) (h n : ℕ) → take (h + n - h) (drop h s) ≡ O.contents s h n
 unfolding O.contents
 lent s h n = middle-part s h n
@@ -183,14 +177,16 @@ lent s h n = middle-part s h n
 pub lent-length : (s : List ℕ) (h n : ℕ) → (length (take (h + n - h) (drop h s)) ≤ n) × (h ≤ length s → h + length (take (h + n - h) (drop h s)) ≤ length s)
 lent-length s h n = (simp (length-take, length-drop) (omega arith), λ l. simp (length-take, length-drop) (omega arith))
 
-pub lbitstr-wrong : (d h n : ℕ) (s : List ℕ) (f : Fault) → ExtentIs s (Within h n) → CountedIs 6 h (take (h + n - h) (drop h s)) (Wrong f)
-    → HeadIs s (Stop f) (O.headBy C.Lbitstr d 0xc1 s)
-lbitstr-wrong d h n s f x c = lbitstr-in d h n s x ∙ subst (λ l. CountedIs 6 h l (Wrong f)) (lent s h n) c _
+module _ (why h n : ℕ) (s : List ℕ) (q : Counted) (y : CountedIs why h (take (h + n - h) (drop h s)) q) where
+  count-is : (z : Counted) → q ≡ z → CountedIs why h (O.contents s h n) z
+  count-is z e = subst (λ l. CountedIs why h l z) (lent s h n) (subst (CountedIs why h (take (h + n - h) (drop h s))) e y)
 
-contents-long : (s : List ℕ) (h n : ℕ) → h + n ≤ length s → length (O.contents s h n) ≡ n
-unfolding O.contents
-contents-long s h n l = length-take-le n (drop h s) (omega (arith, length-drop h s))
+  pub count-fits : (k u : ℕ) → q ≡ Right k u → (u ≤ n) × (k < 2 ^ 63)
+  count-fits k u e =
+      let z : CountedIs why h (take (h + n - h) (drop h s)) (Right k u) = subst (CountedIs why h (take (h + n - h) (drop h s))) e y in
+      (omega (arith, z .1, lent-length s h n .0), z .2)
 
+-- ---- LBITSTR
 lbitstr-odd : (c : List ℕ) (used k u : ℕ) → length (drop u c) ≢ bytesFor k → O.lbitstr c used k u ≡ O.stop (here 6)
 unfolding O.lbitstr
 lbitstr-odd c used k u q = ifEq-no (length (drop u c)) (bytesFor k) _ _ q
@@ -200,78 +196,101 @@ lbitstr-even : (s : List ℕ) (h n k u : ℕ) → length (drop u (O.contents s h
 unfolding O.lbitstr O.contents
 lbitstr-even s h n k u q p =
     ifEq-yes (length (drop u (take n (drop h s)))) (bytesFor k) _ _ q
-    ∙ ap (λ l. O.gives (one (bits (take k (spread 8 l)))) (h + n)) (drop-take u n (drop h s) ∙ ap (λ m. take m (drop u (drop h s))) p ∙ ap (take (bytesFor k)) (drop-drop u h s))
+    ∙ ap (λ l. O.gives (one (bits (take k (spread 8 l)))) (h + n))
+    (drop-take u n (drop h s) ∙ ap (λ m. take m (drop u (drop h s))) p ∙ ap (take (bytesFor k)) (drop-drop u h s))
 
-pub lbitstr-right : (d h n k u : ℕ) (s : List ℕ) → ExtentIs s (Within h n) → CountedIs 6 h (take (h + n - h) (drop h s)) (Right k u)
-    → HeadIs s (longBits h n k u) (O.headBy C.Lbitstr d 0xc1 s)
-unfolding longBits
-lbitstr-right d h n k u s x c0 =
-    let c : CountedIs 6 h (O.contents s h n) (Right k u) = subst (λ l. CountedIs 6 h l (Right k u)) (lent s h n) c0 in
-    let ul : u ≤ n = omega (arith, c .1, contents-long s h n (x .1)) in
-    let el : length (drop u (O.contents s h n)) ≡ n - u = length-drop u (O.contents s h n) ∙ ap (λ m. m - u) (contents-long s h n (x .1)) in
-    let e : O.headBy C.Lbitstr d 0xc1 s ≡ O.lbitstr (O.contents s h n) (h + n) k u = lbitstr-in d h n s x ∙ c .0 _ in
-    split-eq (n - u) (bytesFor k)
-    (λ q.
-    rw (ifEq-yes (n - u) (bytesFor k))
-    (e ∙ lbitstr-even s h n k u (el ∙ q) q, (let a : h + u + bytesFor k ≡ h + n = omega arith in a), x .1))
-    (λ q. rw (ifEq-no (n - u) (bytesFor k)) (e ∙ lbitstr-odd (O.contents s h n) (h + n) k u (λ z. q (sym el ∙ z))))
+-- by what the code answered about the size
+pub extent-within : (s : List ℕ) (r : Extent) → ExtentIs s r → (h n : ℕ) → r ≡ Within h n → ExtentIs s (Within h n)
+extent-within s r x h n e = subst (ExtentIs s) e x
 
--- ---- containers
+module _ (d : ℕ) (s : List ℕ) (r : Extent) (x : ExtentIs s r) where
+  pub lbitstr-wanting : (k : ℕ) (f : Fault) → f ≡ wants (O.pastEnd d) k → r ≡ Wanting k → HeadIs s (Stop f) (O.headBy C.Lbitstr d 0xc1 s)
+  unfolding O.headBy O.lbitstrHead
+  lbitstr-wanting k f ef e = subst (ExtentIs s) e x d _ ∙ ap O.stop (sym ef)
+
+  module _ (h n : ℕ) (e : r ≡ Within h n) (q : Counted) (y : CountedIs 6 h (take (h + n - h) (drop h s)) q) where
+    lbitstr-in : O.headBy C.Lbitstr d 0xc1 s ≡ O.counted 6 h (O.lbitstr (O.contents s h n) (h + n)) (O.leading (O.contents s h n))
+    unfolding O.headBy O.lbitstrHead
+    lbitstr-in = extent-within s r x h n e .0 d _
+
+    pub lbitstr-wrong : (f : Fault) → q ≡ Wrong f → HeadIs s (Stop f) (O.headBy C.Lbitstr d 0xc1 s)
+    lbitstr-wrong f g = lbitstr-in ∙ count-is 6 h n s q y (Wrong f) g _
+
+    pub lbitstr-right : (k u : ℕ) → q ≡ Right k u → HeadIs s (lbitsOf h n k u) (O.headBy C.Lbitstr d 0xc1 s)
+    unfolding lbitsOf
+    lbitstr-right k u g =
+        let l = extent-within s r x h n e .1 in
+        let ul = count-fits 6 h n s q y k u g .0 in
+        let el : length (drop u (O.contents s h n)) ≡ n - u = length-drop u (O.contents s h n) ∙ ap (λ m. m - u) (contents-length s h n l) in
+        let z : O.headBy C.Lbitstr d 0xc1 s ≡ O.lbitstr (O.contents s h n) (h + n) k u = lbitstr-in ∙ count-is 6 h n s q y (Right k u) g .0 _ in
+        split-eq (n - u) (bytesFor k)
+        (λ p.
+        rw (ifEq-yes (n - u) (bytesFor k))
+        (z ∙ lbitstr-even s h n k u (el ∙ p) p, (let a : h + u + bytesFor k ≡ h + n = omega arith in a), l))
+        (λ p. rw (ifEq-no (n - u) (bytesFor k)) (z ∙ lbitstr-odd (O.contents s h n) (h + n) k u (λ w. p (sym el ∙ w))))
+
+  -- ---- containers
+  pub contents-wanting : (k : ℕ) (f : Fault) → f ≡ wants (O.pastEnd d) k → d < 16 → r ≡ Wanting k → ContainedIs d s (Outside f)
+  unfolding O.container
+  contents-wanting k f ef h e = λ g. ifLt-yes d 16 _ _ h ∙ subst (ExtentIs s) e x d g ∙ ap O.stop (sym ef)
+
+  pub contents-in : (h n : ℕ) → d < 16 → r ≡ Within h n → ContainedIs d s (Inside h n)
+  unfolding O.container
+  contents-in h n l e = let z = extent-within s r x h n e in (λ g. ifLt-yes d 16 _ _ l ∙ z .0 d g, z .1)
+
 pub contents-deep : (d : ℕ) (s : List ℕ) (x : Fault) → x ≡ here 5 → 16 ≤ d → ContainedIs d s (Outside x)
 unfolding O.container
 contents-deep d s x e h = λ f. ifLt-no d 16 _ _ h ∙ ap O.stop (sym e)
 
-pub contents-past : (d k : ℕ) (s : List ℕ) (x : Fault) → x ≡ wants (O.past d) k → d < 16 → ExtentIs s (Past k) → ContainedIs d s (Outside x)
-unfolding O.container
-contents-past d k s x ex h e = λ f. ifLt-yes d 16 _ _ h ∙ e d f ∙ ap O.stop (sym ex)
-
-pub contents-in : (d h n : ℕ) (s : List ℕ) → d < 16 → ExtentIs s (Within h n) → ContainedIs d s (Inside h n)
-unfolding O.container
-contents-in d h n s l x = (λ f. ifLt-yes d 16 _ _ l ∙ x .0 d f, x .1)
-
-pub string-stop : (d : ℕ) (s : List ℕ) (f : Fault) → ContainedIs d s (Outside f) → HeadIs s (Stop f) (O.headBy C.String d 0xc6 s)
-unfolding O.headBy O.stringHead
-string-stop d s f x = x _
-
-pub string-text : (d h n : ℕ) (s : List ℕ) → ContainedIs d s (Inside h n) → HeadIs s (Text h n) (O.headBy C.String d 0xc6 s)
-unfolding O.headBy O.stringHead
-string-text d h n s x = (x .0 _, x .1)
-
-pub group-stop : (w : Wrap) (d : ℕ) (s : List ℕ) (f : Fault) → ContainedIs d s (Outside f) → HeadIs s (Stop f) (O.groupHead (wrapOf w) d s)
-unfolding O.groupHead
-group-stop w d s f x = x _
-
-pub group-open : (w : Wrap) (d h n : ℕ) (s : List ℕ) → ContainedIs d s (Inside h n) → HeadIs s (Open w h n) (O.groupHead (wrapOf w) d s)
-unfolding O.groupHead
-group-open w d h n s x = (x .0 _, x .1)
-
--- ---- REPEAT
+-- ---- REPEAT: refused as the outermost object, and else
 pub repeat-outer : (s : List ℕ) → HeadIs s (Stop (here 7)) (O.headBy C.Repeat 0 0xc4 s)
 unfolding O.headBy O.repeatHead
 repeat-outer s = refl
 
-pub repeat-stop : (d : ℕ) (s : List ℕ) (f : Fault) → d ≢ 0 → ContainedIs d s (Outside f) → HeadIs s (Stop f) (O.headBy C.Repeat d 0xc4 s)
+repeat-inner : (d : ℕ) (s : List ℕ) → d ≢ 0 → O.headBy C.Repeat d 0xc4 s
+    ≡ O.container d (O.sized d s (λ h n. O.counted 7 h (λ k u. O.opens (O.repeated k) (h + u) (n - u)) (O.leading (O.contents s h n))))
 unfolding O.headBy O.repeatHead
-repeat-stop zero s f z x = absurd (z refl)
-repeat-stop (suc d) s f z x = x _
+repeat-inner zero s z = absurd (z refl)
+repeat-inner (suc d) s z = refl
 
-repeat-in : (d h n : ℕ) (s : List ℕ) → d ≢ 0 → ContainedIs d s (Inside h n)
-    → O.headBy C.Repeat d 0xc4 s ≡ O.counted 7 h (λ k u. O.opens (O.repeated k) (h + u) (n - u)) (O.leading (O.contents s h n))
-unfolding O.headBy O.repeatHead
-repeat-in zero h n s z x = absurd (z refl)
-repeat-in (suc d) h n s z x = x .0 _
+-- ---- by what the code answered about a container's contents
+module _ (d : ℕ) (s : List ℕ) (r : Contained) (x : ContainedIs d s r) where
+  contained-outside : (f : Fault) → r ≡ Outside f → ContainedIs d s (Outside f)
+  contained-outside f e = subst (ContainedIs d s) e x
 
-pub repeat-wrong : (d h n : ℕ) (s : List ℕ) (f : Fault) → d ≢ 0 → ContainedIs d s (Inside h n) → CountedIs 7 h (take (h + n - h) (drop h s)) (Wrong f)
-    → HeadIs s (Stop f) (O.headBy C.Repeat d 0xc4 s)
-repeat-wrong d h n s f z x c = repeat-in d h n s z x ∙ subst (λ l. CountedIs 7 h l (Wrong f)) (lent s h n) c _
+  pub contained-inside : (h n : ℕ) → r ≡ Inside h n → ContainedIs d s (Inside h n)
+  contained-inside h n e = subst (ContainedIs d s) e x
 
-pub repeat-open : (d h n k u : ℕ) (s : List ℕ) → d ≢ 0 → ContainedIs d s (Inside h n) → CountedIs 7 h (take (h + n - h) (drop h s)) (Right k u)
-    → HeadIs s (Open (Rattle.wire.specs.declared.head.Wrap.the-variants.Repeat k) (h + u) (n - u)) (O.headBy C.Repeat d 0xc4 s)
-unfolding wrapOf
-repeat-open d h n k u s z x c0 =
-    let c : CountedIs 7 h (O.contents s h n) (Right k u) = subst (λ l. CountedIs 7 h l (Right k u)) (lent s h n) c0 in
-    let ul : u ≤ n = omega (arith, c .1, contents-long s h n (x .1)) in
-    (repeat-in d h n s z x ∙ c .0 _, omega (arith, x .1))
+  pub string-stop : (f : Fault) → r ≡ Outside f → HeadIs s (Stop f) (O.headBy C.String d 0xc6 s)
+  unfolding O.headBy O.stringHead
+  string-stop f e = contained-outside f e _
+
+  pub string-text : (h n : ℕ) → r ≡ Inside h n → HeadIs s (Text h n) (O.headBy C.String d 0xc6 s)
+  unfolding O.headBy O.stringHead
+  string-text h n e = let y = contained-inside h n e in (y .0 _, y .1)
+
+  pub group-stop : (w : Wrap) (f : Fault) → r ≡ Outside f → HeadIs s (Stop f) (O.groupHead (wrapOf w) d s)
+  unfolding O.groupHead
+  group-stop w f e = contained-outside f e _
+
+  pub group-open : (w : Wrap) (h n : ℕ) → r ≡ Inside h n → HeadIs s (Open w h n) (O.groupHead (wrapOf w) d s)
+  unfolding O.groupHead
+  group-open w h n e = let y = contained-inside h n e in (y .0 _, y .1)
+
+  module _ (z : d ≢ 0) where
+    pub repeat-stop : (f : Fault) → r ≡ Outside f → HeadIs s (Stop f) (O.headBy C.Repeat d 0xc4 s)
+    repeat-stop f e = repeat-inner d s z ∙ contained-outside f e _
+
+    module _ (h n : ℕ) (e : r ≡ Inside h n) (q : Counted) (y : CountedIs 7 h (take (h + n - h) (drop h s)) q) where
+      pub repeat-wrong : (f : Fault) → q ≡ Wrong f → HeadIs s (Stop f) (O.headBy C.Repeat d 0xc4 s)
+      repeat-wrong f g = repeat-inner d s z ∙ contained-inside h n e .0 _ ∙ count-is 7 h n s q y (Wrong f) g _
+
+      pub repeat-open : (k u : ℕ) → q ≡ Right k u → HeadIs s (Open (Repeat k) (h + u) (n - u)) (O.headBy C.Repeat d 0xc4 s)
+      unfolding wrapOf
+      repeat-open k u g =
+          let i = contained-inside h n e in
+          let ul = count-fits 7 h n s q y k u g .0 in
+          (repeat-inner d s z ∙ i .0 _ ∙ count-is 7 h n s q y (Right k u) g .0 _, omega (arith, i .1))
 
 -- the code's arm of a class says what the byte's own head does
 pub by-class : (d b : ℕ) (s : List ℕ) (r : Head) (c : Class) → c ≡ classOf b → HeadIs s r (O.headBy c d b s) → HeadIs s r (O.headOf d b s)

@@ -20,50 +20,32 @@ unfolding integer
 integer-take s k h = rw (length-take-le k s h) refl
 
 -- the high bytes of a word: the sign that its highest bit tells, and what a negative one is when the low bytes are shifted out
-record High (w k : ℕ) : Type 0 where
-  plus : w < 2 ^ 63 → 2 * (w / 2 ^ (64 - 8 * k)) < 256 ^ k
-  minus : 2 ^ 63 ≤ w → 256 ^ k ≤ 2 * (w / 2 ^ (64 - 8 * k))
-  value : (256 ^ 8 - 1 - w) / 2 ^ (64 - 8 * k) ≡ 256 ^ k - 1 - w / 2 ^ (64 - 8 * k)
+module _ (w k : ℕ) (h : w < 2 ^ 64) (p : 0 < k) (l : k ≤ 8) where
+  high-plus : w < 2 ^ 63 → 2 * (w / 2 ^ (64 - 8 * k)) < 256 ^ k
+  high-plus =
+      each-of-eight (λ j. w < 2 ^ 63 → 2 * (w / 2 ^ (64 - 8 * j)) < 256 ^ j)
+      (λ g. omega arith, (λ g. omega arith, (λ g. omega arith, (λ g. omega arith, (λ g. omega arith, (λ g. omega arith, (λ g. omega arith, (λ g. omega arith, tt)))))))) k p l
 
-high : (w k : ℕ) → w < 2 ^ 64 → 0 < k → k ≤ 8 → High w k
-high w k hw p l =
-    each-of-eight (High w) (
-      record { plus = λ g. omega arith; minus = λ g. omega arith; value = omega arith },
-      (
-        record { plus = λ g. omega arith; minus = λ g. omega arith; value = omega arith },
-        (
-          record { plus = λ g. omega arith; minus = λ g. omega arith; value = omega arith },
-          (
-            record { plus = λ g. omega arith; minus = λ g. omega arith; value = omega arith },
-            (
-              record { plus = λ g. omega arith; minus = λ g. omega arith; value = omega arith },
-              (
-                record { plus = λ g. omega arith; minus = λ g. omega arith; value = omega arith },
-                (
-                  record { plus = λ g. omega arith; minus = λ g. omega arith; value = omega arith },
-                  (
-                    record { plus = λ g. omega arith; minus = λ g. omega arith; value = omega arith },
-                    tt,
-                  ),
-                ),
-              ),
-            ),
-          ),
-        ),
-      ),
-    ) k p l
+  high-minus : 2 ^ 63 ≤ w → 256 ^ k ≤ 2 * (w / 2 ^ (64 - 8 * k))
+  high-minus =
+      each-of-eight (λ j. 2 ^ 63 ≤ w → 256 ^ j ≤ 2 * (w / 2 ^ (64 - 8 * j)))
+      (λ g. omega arith, (λ g. omega arith, (λ g. omega arith, (λ g. omega arith, (λ g. omega arith, (λ g. omega arith, (λ g. omega arith, (λ g. omega arith, tt)))))))) k p l
+
+  high-value : (256 ^ 8 - 1 - w) / 2 ^ (64 - 8 * k) ≡ 256 ^ k - 1 - w / 2 ^ (64 - 8 * k)
+  high-value =
+      each-of-eight (λ j. (256 ^ 8 - 1 - w) / 2 ^ (64 - 8 * j) ≡ 256 ^ j - 1 - w / 2 ^ (64 - 8 * j))
+      (omega arith, (omega arith, (omega arith, (omega arith, (omega arith, (omega arith, (omega arith, (omega arith, tt)))))))) k p l
 
 shr-signed : (w k : ℕ) → w < 2 ^ 64 → 0 < k → k ≤ 8 → shrZ (signed 8 w) (2 ^ (64 - 8 * k)) ≡ signed k (w / 2 ^ (64 - 8 * k))
 unfolding signed
 shr-signed w k hw p l =
-    let q = high w k hw p l in
     split w (2 ^ 63)
     (λ g.
     let a : 2 * w < 256 ^ 8 = omega arith in
-    rw (ifLt-yes (2 * w) (256 ^ 8), ifLt-yes (2 * (w / 2 ^ (64 - 8 * k))) (256 ^ k) _ _ (q .plus g)) refl)
+    rw (ifLt-yes (2 * w) (256 ^ 8), ifLt-yes (2 * (w / 2 ^ (64 - 8 * k))) (256 ^ k) _ _ (high-plus w k hw p l g)) refl)
     (λ g.
     let a : 256 ^ 8 ≤ 2 * w = omega arith in
-    rw (ifLt-no (2 * w) (256 ^ 8), ifLt-no (2 * (w / 2 ^ (64 - 8 * k))) (256 ^ k) _ _ (q .minus g)) (ap negsuc (q .value)))
+    rw (ifLt-no (2 * w) (256 ^ 8), ifLt-no (2 * (w / 2 ^ (64 - 8 * k))) (256 ^ k) _ _ (high-minus w k hw p l g)) (ap negsuc (high-value w k hw p l)))
 
 -- the same as the code shifts a number that it was handed
 pub shifted : (w k : ℕ) (z : ℤ) → mag z < 2 ^ 63 → w < 2 ^ 64 → 0 < k → k ≤ 8 → z ≡ signed 8 w

@@ -2,9 +2,10 @@ pub mod Sizes
 pub mod ClassCases
 pub mod Integers
 pub mod Leadings
-pub mod ShortBits
+pub mod Sbits
 pub mod HeadLaws
-pub mod RowsAt
+pub mod OneRows
+pub mod Stretches
 pub mod Ranges
 pub mod WordLaws
 pub mod ShortLaws

@@ -9,20 +9,20 @@ use lib.ListN.{length, take, drop, getD, length-drop}
 use lib.Seq.{getD-drop}
 use Rattle.format.specs.Numbers.{val}
 use Rattle.format.specs.Refusals.{wants}
-use Rattle.format.specs.Objects.{Head, stop, past, cut, size, longSize, sizeOf, within, sized}
-use Rattle.format.proofs.Choices.{ifLt-yes, ifLt-no, ifEq-yes, ifEq-no, split, byEq}
+use Rattle.format.specs.Objects.{Head, stop, pastEnd, cut, size, longSize, sizeOf, within, sized}
+use Rattle.format.proofs.Choices.{ifLt-yes, ifLt-no, ifEq-yes, ifEq-no, split}
 use Rattle.format.proofs.Digits.{val-take-suc}
 use Rattle.format.proofs.Faults.{wants-alike}
-use Rattle.wire.specs.declared.size.Extent.the-variants.{Past}
+use Rattle.wire.specs.declared.size.Extent.the-variants.{Wanting}
 use Rattle.wire.specs.Extents.{extentAt, longCount, ExtentIs}
 
-pub extent-cut : (s : List ℕ) (k : ℕ) → sizeOf s ≡ cut k → ExtentIs s (Past k)
+pub extent-cut : (s : List ℕ) (k : ℕ) → sizeOf s ≡ cut k → ExtentIs s (Wanting k)
 unfolding sized within
 extent-cut s k e = λ d f. rw e refl
 
 -- of a size that is capped at twice what any message holds, as many bytes are missing as of the size itself
-missing-capped : (d n m l : ℕ) → m ≡ min n 131072 → l ≤ 65536 → stop (wants (past d) (n - l)) ≡ stop (wants (past d) (m - l))
-missing-capped d n m l e h = ap stop (wants-alike (past d) (n - l) (m - l) (omega arith))
+missing-capped : (d n m l : ℕ) → m ≡ min n 131072 → l ≤ 65536 → stop (wants (pastEnd d) (n - l)) ≡ stop (wants (pastEnd d) (m - l))
+missing-capped d n m l e h = ap stop (wants-alike (pastEnd d) (n - l) (m - l) (omega arith))
 
 -- and it is as good as the size itself
 pub extent-is : (s : List ℕ) (h n m : ℕ) → sizeOf s ≡ size h n → m ≡ min n 131072 → h ≤ length s → length s ≤ 65536 → ExtentIs s (extentAt (length s) h m)
@@ -62,10 +62,6 @@ pub size-long-cut : (s : List ℕ) (k : ℕ) → 0 < length s → 128 ≤ getD s
 unfolding sizeOf longCount longSize
 size-long-cut [] k h g e l = absurd (omega arith)
 size-long-cut (b ∷ s) k h g e l = let j : length s < k = omega arith in rw (ifLt-no b 128, ← e, ifLt-yes (length s) k) (ap cut (omega arith))
-
-pub long-count-ok : (b : ℕ) → 128 ≤ b → b < 256 → (0 < longCount b) × (longCount b ≤ 128)
-unfolding longCount
-long-count-ok b g l = byEq (λ k. (0 < k) × (k ≤ 128)) b 128 (λ e. (omega arith, omega arith)) (λ n. (omega arith, omega arith))
 
 -- one size byte more
 pub size-step : (s : List ℕ) (i n b k : ℕ) → i < k → 1 + k ≤ length s → n ≡ min (val (take i (drop 1 s))) 131072 → b ≡ getD s (1 + i) 0

@@ -62,7 +62,10 @@ all-ones s e small h =
     let b6 = small (e + 6) in
     let b7 = small (e + 7) in
     between-each 0xff 0xff e 8 s
-    ((omega arith, omega arith), ((omega arith, omega arith), ((omega arith, omega arith), ((omega arith, omega arith), ((omega arith, omega arith), ((omega arith, omega arith), ((omega arith, omega arith), ((rw add-zero (omega arith, omega arith)), tt))))))))
+    (ff _ (omega arith), (ff _ (omega arith), (ff _ (omega arith), (ff _ (omega arith), (ff _ (omega arith), (ff _ (omega arith), (ff _ (omega arith), (rw add-zero (ff _ (omega arith)), tt))))))))
+  where
+    ff : (x : ℕ) → x ≡ 0xff → (0xff ≤ x) × (x ≤ 0xff)
+    ff x q = (omega arith, omega arith)
 
 -- the number of the first k bytes, taken from the word
 pub number-high : (s : List ℕ) (k w : ℕ) → ((i : ℕ) → getD s i 0 < 256) → 8 ≤ length s → 0 < k → k ≤ 8 → w ≡ wordAt 0 s

@@ -22,30 +22,30 @@ use Rattle.wire.specs.declared.head.Contained.the-variants.{Outside, Ins
 use Rattle.wire.specs.declared.head.Counted.{Counted}
 use Rattle.wire.specs.declared.head.Counted.the-variants.{Wrong, Right}
 use Rattle.wire.specs.declared.head.Head.{Head}
-use Rattle.wire.specs.declared.head.Head.the-variants.{Stop, Gap, Row, Short, Long, Text, Open}
+use Rattle.wire.specs.declared.head.Head.the-variants.{Stop, Gap, Row, Sbits, Lbits, Text, Open}
 
 abbrev pub LeadingIs : List ℕ → Leading → Type 0
 LeadingIs s L.Absent = O.leading s ≡ O.absent
-LeadingIs s (L.Short p k) = (O.leading s ≡ O.short p k) × (p < length s)
+LeadingIs s (L.Cut p k) = (O.leading s ≡ O.cutInt p k) × (p < length s)
 LeadingIs s (L.Found z u) = (O.leading s ≡ O.found z u) × (u ≤ length s)
 
 -- what is found i bytes further on
-unfoldable pub ahead : ℕ → O.Leading → O.Leading
-ahead i O.absent = O.absent
-ahead i (O.short p k) = O.short (i + p) k
-ahead i (O.found z u) = O.found z (i + u)
+unfoldable pub onward : ℕ → O.Leading → O.Leading
+onward i O.absent = O.absent
+onward i (O.cutInt p k) = O.cutInt (i + p) k
+onward i (O.found z u) = O.found z (i + u)
 
 -- padding up to i, and none there
 pub record Unpadded (s : List ℕ) (i : ℕ) : Type 0 where
   pub within : i ≤ length s
-  pub skipped : O.leading s ≡ ahead i (O.leading (drop i s))
+  pub skipped : O.leading s ≡ onward i (O.leading (drop i s))
   pub there : i < length s → getD s i 0 ≢ 0xff
 
 -- an LINTEGER whose type-byte b stands at i
 unfoldable pub lintegerAt : List ℕ → ℕ → ℕ → Leading
 unfolding ifLt O.following O.integer
 lintegerAt s i b =
-    ifLt (length s - (i + 1)) (O.following b) (L.Short i (O.following b - (length s - (i + 1)))) (L.Found (O.integer (take (O.following b) (drop (i + 1) s))) (i + 1 + O.following b))
+    ifLt (length s - (i + 1)) (O.following b) (L.Cut i (O.following b - (length s - (i + 1)))) (L.Found (O.integer (take (O.following b) (drop (i + 1) s))) (i + 1 + O.following b))
 
 -- a container's contents, whatever it makes of them
 abbrev pub ContainedIs : ℕ → List ℕ → Contained → Type 0
@@ -63,9 +63,9 @@ wrapOf Ustruc = O.as-ustruc
 wrapOf Edt = O.as-edt
 wrapOf (Repeat k) = O.repeated k
 
-unfoldable pub longBits : ℕ → ℕ → ℕ → ℕ → Head
+unfoldable pub lbitsOf : ℕ → ℕ → ℕ → ℕ → Head
 unfolding ifEq bytesFor
-longBits h size n u = ifEq (size - u) (bytesFor n) (Long (h + u) n (h + size)) (Stop (here 6))
+lbitsOf h size n u = ifEq (size - u) (bytesFor n) (Lbits (h + u) n (h + size)) (Stop (here 6))
 
 -- an item whose row is k, 0 and v, with no data words
 pub record IsRow (l : Leaf) (k v : ℕ) : Type 0 where
@@ -75,13 +75,13 @@ pub record IsRow (l : Leaf) (k v : ℕ) : Type 0 where
   pub none : leafWords l ≡ []
 
 -- an object of the type-byte b is one item with such a row, and has u bytes past the type-byte, however deep it stands
-pub record RowAt (b : ℕ) (s : List ℕ) (k v u : ℕ) : Type 0 where
+pub record OneRow (b : ℕ) (s : List ℕ) (k v u : ℕ) : Type 0 where
   pub leaf : Leaf
   pub head : (d : ℕ) → O.headOf d b s ≡ O.gives (one leaf) u
   pub row : IsRow leaf k v
 
 -- n bits, at most 63, left-adjusted in the word w
-pub record IsShort (bs : List Bool) (n w : ℕ) : Type 0 where
+pub record IsSbits (bs : List Bool) (n w : ℕ) : Type 0 where
   pub many : length bs ≡ n
   pub few : n ≤ 63
   pub word : adjusted 64 bs ≡ w
@@ -95,8 +95,8 @@ abbrev pub HeadIs : List ℕ → Head → O.Head → Type 0
 HeadIs s (Stop x) h = h ≡ O.stop x
 HeadIs s Gap h = h ≡ O.gives end 0
 HeadIs s (Row k v u) h = (l : Leaf) × (h ≡ O.gives (one l) u) × IsRow l k v
-HeadIs s (Short n w u) h = (bs : List Bool) × (h ≡ O.gives (one (bits bs)) u) × IsShort bs n w
-HeadIs s (Long a n u) h = (h ≡ O.gives (one (bits (bitsFrom s a n))) u) × (a + bytesFor n ≡ u) × (u ≤ length s)
+HeadIs s (Sbits n w u) h = (bs : List Bool) × (h ≡ O.gives (one (bits bs)) u) × IsSbits bs n w
+HeadIs s (Lbits a n u) h = (h ≡ O.gives (one (bits (bitsFrom s a n))) u) × (a + bytesFor n ≡ u) × (u ≤ length s)
 HeadIs s (Text a n) h = (h ≡ O.gives (group struc (O.characters (O.contents s a n)) end) (a + n)) × (a + n ≤ length s)
 HeadIs s (Open w a n) h = (h ≡ O.opens (wrapOf w) a n) × (a + n ≤ length s)
 
@@ -107,7 +107,7 @@ markedWord b s n = val (take (O.following b) s) * 2 ^ (64 - n) % 2 ^ 64
 
 -- the type-byte b and the bytes s behind it are an SBITSTR of n bits, however deep it stands
 pub record BitsAt (b : ℕ) (s : List ℕ) (n : ℕ) : Type 0 where
-  pub head : (d : ℕ) → HeadIs s (Short n (markedWord b s n) (O.following b)) (O.headOf d b s)
+  pub head : (d : ℕ) → HeadIs s (Sbits n (markedWord b s n) (O.following b)) (O.headOf d b s)
   pub within : O.following b ≤ length s
   pub few : n ≤ 63
 
@@ -121,14 +121,14 @@ unfolding either
 hasElements b = either (eqb b 0xc2) (either (eqb b 0xc3) (either (eqb b 0xc5) (eqb b 0xc6)))
 
 -- how a container closes by its type-byte C2, C5 or C3
-unfoldable pub shortWrap : ℕ → O.Wrap
+unfoldable pub wrapBy : ℕ → Wrap
 unfolding ifEq
-shortWrap b = ifEq b 0xc3 O.as-edt (ifEq b 0xc5 O.as-ustruc O.as-struc)
+wrapBy b = ifEq b 0xc3 Edt (ifEq b 0xc5 Ustruc Struc)
 
 -- the head of a container or a string whose size is the one byte n
 unfoldable pub shortHead : ℕ → List ℕ → ℕ → O.Head
-unfolding ifEq shortWrap O.characters O.contents
-shortHead b s n = ifEq b 0xc6 (O.gives (group struc (O.characters (O.contents s 1 n)) end) (1 + n)) (O.opens (shortWrap b) 1 n)
+unfolding ifEq wrapBy wrapOf O.characters O.contents
+shortHead b s n = ifEq b 0xc6 (O.gives (group struc (O.characters (O.contents s 1 n)) end) (1 + n)) (O.opens (wrapOf (wrapBy b)) 1 n)
 
 pub record ShortAt (d b : ℕ) (s : List ℕ) (n : ℕ) : Type 0 where
   pub head : O.headOf d b s ≡ shortHead b s n

@@ -24,7 +24,7 @@ fn is_sbitstr(b: u8) -> bool
 
 // One more than the bits of the SBITSTR of the type-byte b which lies within the bytes s behind it and has its marker; 0 for any
 // other object. The zeros before the marker are the ones of the complement.
-pub fn short_bits(b: u8, s: &[u8]) -> usize
+pub fn sbits_of(b: u8, s: &[u8]) -> usize
     ensures { λ r. ⌜ BitsIs b (now (s .entry)) r ⌝ }
 {
     if !is_sbitstr(b) {
@@ -43,7 +43,7 @@ pub fn short_bits(b: u8, s: &[u8]) -> usize
 }
 
 // The n bits of such an SBITSTR, left-adjusted in a word: the marker is pushed out.
-pub fn short_word(b: u8, s: &[u8], n: usize) -> u64
+pub fn sbits_word(b: u8, s: &[u8], n: usize) -> u64
     requires { ⌜ (0 < n) × (n ≤ 63) × (following b ≤ length (now s)) ⌝ }
     ensures { λ r. ⌜ r ≡ markedWord b (now (s .entry)) n ⌝ }
 {

@@ -11,11 +11,11 @@ use format::Class;
 use format::signed::value_of;
 use format::tree::class_of;
 
-// The INT at the front of contents. Short: cut short at that place, and how many of its bytes are missing. Found: its value, and
+// The INT at the front of contents. Cut: it ends too early, at that place, and how many of its bytes are missing. Found: its value, and
 // the bytes up to its end.
 pub enum Leading {
     Absent,
-    Short(usize, usize),
+    Cut(usize, usize),
     Found(i64, usize),
 }
 
@@ -140,7 +140,7 @@ fn linteger_at(s: &[u8], i: usize, b: u8) -> Leading
     let from = i + 1;
     let there = s.len() - from;
     if there < k {
-        return Leading::Short(i, k - there);
+        return Leading::Cut(i, k - there);
     }
     Leading::Found(integer_of(&s[from..], k), from + k)
 }

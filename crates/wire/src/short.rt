@@ -1,8 +1,10 @@
 // Containers and strings whose size is one byte, as that of most is.
 ghost use mathlib.Core.Path.{_≡_};
 ghost use lib.Dec.{eqb};
-ghost use Rattle.wire.specs.Heads.{ShortIs, hasElements};
+ghost use Rattle.wire.specs.Heads.{ShortIs, hasElements, wrapBy};
+use super::head::Wrap;
 use format::Class;
+use format::limits::DEEPEST;
 use format::tree::class_of;
 
 fn is_struc(b: u8) -> bool
@@ -15,7 +17,7 @@ fn is_struc(b: u8) -> bool
     }
 }
 
-pub fn is_edt(b: u8) -> bool
+fn is_edt(b: u8) -> bool
     ensures { λ r. ⌜ r ≡ eqb b 0xc3 ⌝ }
 {
     let class = class_of(b);
@@ -25,7 +27,7 @@ pub fn is_edt(b: u8) -> bool
     }
 }
 
-pub fn is_ustruc(b: u8) -> bool
+fn is_ustruc(b: u8) -> bool
     ensures { λ r. ⌜ r ≡ eqb b 0xc5 ⌝ }
 {
     let class = class_of(b);
@@ -43,6 +45,19 @@ pub fn is_string(b: u8) -> bool
         Class::String => true,
         _ => false,
     }
+}
+
+// How a container of the type-byte C2, C5 or C3 closes.
+pub fn wrap_by(b: u8) -> Wrap
+    ensures { λ r. ⌜ r ≡ wrapBy b ⌝ }
+{
+    if is_edt(b) {
+        return Wrap::Edt;
+    }
+    if is_ustruc(b) {
+        return Wrap::Ustruc;
+    }
+    Wrap::Struc
 }
 
 // Whether a type-byte is one of these four: its contents are elements, with no length or count before them.
@@ -69,7 +84,7 @@ pub fn short_size(depth: usize, b: u8, s: &[u8]) -> usize
     if !has_elements(b) {
         return 0;
     }
-    if depth >= 16 {
+    if depth >= DEEPEST {
         return 0;
     }
     if s.len() == 0 {

@@ -4,10 +4,11 @@ ghost use Prim.Native.Nat.{_+_, _≤_, _<_, min};
 ghost use lib.ListN.{length, take, drop};
 ghost use Rattle.format.specs.Numbers.{val};
 ghost use Rattle.wire.specs.Extents.{ExtentIs, extentAt, longCount};
+ghost use Rattle.format.specs.Refusals.{byteLimit};
 
-// Past: size bytes or contents are missing, and how many. Within: where past the type-byte the contents start, and their size.
+// Wanting: size bytes or contents are missing, and how many. Within: where past the type-byte the contents start, and their size.
 pub enum Extent {
-    Past(usize),
+    Wanting(usize),
     Within(usize, usize),
 }
 
@@ -17,11 +18,13 @@ fn wide(x: u8) -> usize
     x as usize
 }
 
-// Twice what a message may have: from this size on 65,536 bytes or more are missing in any.
+// Sizes are kept so far and no further, twice what a message may have: from this size on 65,536 bytes or more are missing in any.
+const SIZE_KEPT: usize = 131072;
+
 fn capped(n: usize) -> usize
     ensures { λ r. ⌜ r ≡ min n 131072 ⌝ }
 {
-    if n <= 131072 { n } else { 131072 }
+    if n <= SIZE_KEPT { n } else { SIZE_KEPT }
 }
 
 // What the k size bytes behind the first one make, or 131,072 where they make more.
@@ -45,18 +48,18 @@ fn extent_at(s: &[u8], h: usize, n: usize) -> Extent
 {
     let there = s.len() - h;
     if there < n {
-        return Extent::Past(n - there);
+        return Extent::Wanting(n - there);
     }
     Extent::Within(h, n)
 }
 
 // The extent of an object with a size field; s are the bytes behind its type-byte.
 pub fn extent_of(s: &[u8]) -> Extent
-    requires { ⌜ length (now s) ≤ 65536 ⌝ }
+    requires { ⌜ length (now s) ≤ byteLimit ⌝ }
     ensures { λ r. ⌜ ExtentIs (now (s .entry)) r ⌝ }
 {
     if s.len() == 0 {
-        return Extent::Past(1);
+        return Extent::Wanting(1);
     }
     let b = s[0];
     if b == 0 {
@@ -68,7 +71,7 @@ pub fn extent_of(s: &[u8]) -> Extent
     let k = long_count(b);
     let there = s.len() - 1;
     if there < k {
-        return Extent::Past(k - there);
+        return Extent::Wanting(k - there);
     }
     let n = long_size(s, k);
     extent_at(s, 1 + k, n)

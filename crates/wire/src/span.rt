@@ -3,7 +3,7 @@ ghost use mathlib.Core.Path.{_≡_};
 ghost use mathlib.Core.Bool.{true};
 ghost use Prim.Native.Nat.{_+_, _≤_, _<_};
 ghost use lib.ListN.{length};
-ghost use Rattle.wire.specs.Ranges.{Between};
+ghost use Rattle.wire.specs.Ranges.{Between, Ranged};
 use super::integer::word_at;
 
 // The least and the greatest of some bytes.
@@ -44,7 +44,7 @@ fn spread_of(s: &[u8], i: usize) -> Spread
 // How far from i on blocks of 64 bytes are all lo to hi.
 fn blocks(s: &[u8], i: usize, lo: u8, hi: u8) -> usize
     requires { ⌜ i ≤ length (now s) ⌝ }
-    ensures { λ r. ⌜ (i ≤ r) × (r ≤ length (now (s .entry))) × Between lo hi i r (now (s .entry)) ⌝ }
+    ensures { λ r. ⌜ Ranged lo hi i r (now (s .entry)) ⌝ }
 {
     let mut e = i;
     while s.len() - e >= 64 {
@@ -63,7 +63,7 @@ fn blocks(s: &[u8], i: usize, lo: u8, hi: u8) -> usize
 // Where the bytes from i on that are lo to hi end.
 pub fn until(s: &[u8], i: usize, lo: u8, hi: u8) -> usize
     requires { ⌜ i ≤ length (now s) ⌝ }
-    ensures { λ r. ⌜ (i ≤ r) × (r ≤ length (now (s .entry))) × Between lo hi i r (now (s .entry)) ⌝ }
+    ensures { λ r. ⌜ Ranged lo hi i r (now (s .entry)) ⌝ }
 {
     let mut e = blocks(s, i, lo, hi);
     while e < s.len() {
@@ -82,7 +82,7 @@ pub fn until(s: &[u8], i: usize, lo: u8, hi: u8) -> usize
 // How far from i on words of eight bytes are all below 80 hex.
 fn eights(s: &[u8], i: usize) -> usize
     requires { ⌜ i ≤ length (now s) ⌝ }
-    ensures { λ r. ⌜ (i ≤ r) × (r ≤ length (now (s .entry))) × Between 0 0x7f i r (now (s .entry)) ⌝ }
+    ensures { λ r. ⌜ Ranged 0 0x7f i r (now (s .entry)) ⌝ }
 {
     let mut e = i;
     while s.len() - e >= 8 {
@@ -97,7 +97,7 @@ fn eights(s: &[u8], i: usize) -> usize
 // Where the bytes from i on that are below 80 hex end.
 pub fn chars_end(s: &[u8], i: usize) -> usize
     requires { ⌜ i ≤ length (now s) ⌝ }
-    ensures { λ r. ⌜ (i ≤ r) × (r ≤ length (now (s .entry))) × Between 0 0x7f i r (now (s .entry)) ⌝ }
+    ensures { λ r. ⌜ Ranged 0 0x7f i r (now (s .entry)) ⌝ }
 {
     let mut e = eights(s, blocks(s, i, 0, 0x7f));
     while e < s.len() {

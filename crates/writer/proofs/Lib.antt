@@ -1,23 +1,14 @@
--- The laws, each file standing on those before it: numbers and lists, rows, judging, leaves, runs, and the answers.
+-- The laws, each file standing on those before it: numbers, leaves, lengths, the survey, writing, and the answers.
 pub mod NumberLaws
 pub mod Magnitudes
-pub mod Over
-pub mod RowLaws
-pub mod BitRows
-pub mod CodeLaws
-pub mod Standing
-pub mod LeafRows
-pub mod KindLaws
-pub mod Judging
-pub mod Whole
 pub mod LeafForms
 pub mod StringLaws
 pub mod WordLaws
-pub mod RunLaws
+pub mod Lengths
 pub mod Passing
 pub mod Surveying
 pub mod Moving
 pub mod WriteLaws
 pub mod StretchLaws
-pub mod BoxLaws
+pub mod ContainerLaws
 pub mod TopLaws

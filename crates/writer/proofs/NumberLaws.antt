@@ -4,26 +4,30 @@ use mathlib.Core.List.{List, [], _∷_, _++_, append-assoc, append-nil}
 use Prim.Native.Nat.{ℕ, zero, suc, _+_, _-_, _*_, _/_, _%_, _^_, _≤_, _<_}
 use native.Mathlib.Nat.{pow-suc, mul-comm, div-div-eq-div-mul, div-one, mod-eq-of-lt, mod-lt}
 use native.Mathlib.Omega.{arith}
-use lib.ListN.{length, drop, set, length-set}
-use lib.Seq.{drop-cons, drop-set-lt, getD-set-same}
+use lib.ListN.{length, set}
 use lib.Pow as P
 use lib.Count.{leadingZeros, leading-top}
 use lib.IntN.{pos}
 use lib.Signed.{mag}
 use Rattle.format.specs.Numbers.{be, width, signed, twos}
+use Rattle.format.specs.Answers.{over}
+use Rattle.format.specs.Lent.{overAt}
 use Rattle.format.specs.Normal.{linteger, normalInt, normalSize}
 use Rattle.format.proofs.Choices.{ifLt-yes, ifLt-no, ifEq-yes, ifEq-no, split, byLt}
+use Rattle.format.proofs.SignedLaws.{to-pos, to-signed}
 use Rattle.format.proofs.Digits.{p256, pow-le, be-length, width-fits, width-least}
 use Rattle.format.proofs.Marker.{pow-bytes}
+use Rattle.format.proofs.Over.{at-last}
+use Rattle.format.proofs.Sizes.{size-zero, size-small, size-large}
 
 -- ---- the digits of a number from its low end
 -- 256 ^ k as a power of two, for the laws of these
-pub low-low : (n k : ℕ) → n % 256 ^ suc k % 256 ≡ n % 256
+low-low : (n k : ℕ) → n % 256 ^ suc k % 256 ≡ n % 256
 low-low n k =
     let e : 256 ^ suc k ≡ 2 ^ (8 * k + 8) = omega (arith, pow-suc 256 k, P.pow-add 2 (8 * k) 8, pow-bytes k) in
     rw e (P.mod-mod-pow n (8 * k) 8)
 
-pub low-high : (n k : ℕ) → n % 256 ^ suc k / 256 ≡ n / 256 % 256 ^ k
+low-high : (n k : ℕ) → n % 256 ^ suc k / 256 ≡ n / 256 % 256 ^ k
 low-high n k =
     let e : 256 ^ suc k ≡ 2 ^ (8 * k + 8) = omega (arith, pow-suc 256 k, P.pow-add 2 (8 * k) 8, pow-bytes k) in
     rw (e, ← pow-bytes k) (P.field n (8 * k) 8)
@@ -37,7 +41,7 @@ be-snoc (suc k) n h =
     (be-snoc k (n % 256 ^ suc k) (mod-lt n (p256 (suc k)))
     ∙ ap₂ (λ x y. be k x ++ (y ∷ [])) (low-high n k) (low-low n k))
 
-pub low-snoc : (k n : ℕ) → be (suc k) (n % 256 ^ suc k) ≡ be k (n / 256 % 256 ^ k) ++ (n % 256 ∷ [])
+low-snoc : (k n : ℕ) → be (suc k) (n % 256 ^ suc k) ≡ be k (n / 256 % 256 ^ k) ++ (n % 256 ∷ [])
 low-snoc k n = be-snoc k (n % 256 ^ suc k) (mod-lt n (p256 (suc k))) ∙ ap₂ (λ x y. be k x ++ (y ∷ [])) (low-high n k) (low-low n k)
 
 -- the high bytes of a number, and then its low ones
@@ -57,7 +61,7 @@ low-parts a (suc b) n =
     ∙ ap₂ (λ x l. be a (x % 256 ^ a) ++ l) d (sym (low-snoc b n))
 
 -- the highest of some low bytes, and the others
-pub low-head : (k n : ℕ) → be (suc k) (n % 256 ^ suc k) ≡ n / 2 ^ (8 * k) % 256 ∷ be k (n % 256 ^ k)
+low-head : (k n : ℕ) → be (suc k) (n % 256 ^ suc k) ≡ n / 2 ^ (8 * k) % 256 ∷ be k (n % 256 ^ k)
 unfolding be
 low-head k n =
     let z : 8 * suc k ≡ 8 + 8 * k = omega arith in
@@ -74,18 +78,20 @@ pub word-eight : (n : ℕ) → n < 2 ^ 64 → be 8 n ≡ n / 2 ^ 56 ∷ n / 2 ^ 
 word-eight n h =
     let top : n / 2 ^ 56 % 256 ≡ n / 2 ^ 56 = mod-eq-of-lt (P.shr-lt 8 56 h) in
     ap (be 8) (sym (mod-eq-of-lt {n = n} {m = 256 ^ 8} (omega arith)))
-    ∙ low-head 7 n ∙ ap (λ l. n / 2 ^ 56 % 256 ∷ l) (low-head 6 n ∙ ap (λ l. n / 2 ^ 48 % 256 ∷ l) (low-head 5 n ∙ ap (λ l. n / 2 ^ 40 % 256 ∷ l) (low-head 4 n ∙ ap (λ l. n / 2 ^ 32 % 256 ∷ l) (low-four n))))
+    ∙ low-head 7 n ∙ ap (λ l. n / 2 ^ 56 % 256 ∷ l) (low-head 6 n ∙ ap (λ l. n / 2 ^ 48 % 256 ∷ l)
+    (low-head 5 n ∙ ap (λ l. n / 2 ^ 40 % 256 ∷ l) (low-head 4 n ∙ ap (λ l. n / 2 ^ 32 % 256 ∷ l) (low-four n))))
     ∙ ap (λ x. x ∷ n / 2 ^ 48 % 256 ∷ n / 2 ^ 40 % 256 ∷ n / 2 ^ 32 % 256 ∷ n / 2 ^ 24 % 256 ∷ n / 2 ^ 16 % 256 ∷ n / 2 ^ 8 % 256 ∷ n % 256 ∷ []) top
 
 -- one byte more, from the low end: the step of the loop that writes them
-pub low-turn : (k n i x : ℕ) (t out : List ℕ) → 0 < i → i ≤ length out →
-    be k (n % 256 ^ k) ++ drop k t ≡ be i (x % 256 ^ i) ++ drop i out →
-    be k (n % 256 ^ k) ++ drop k t ≡ be (i - 1) (x / 256 % 256 ^ (i - 1)) ++ drop (i - 1) (set out (i - 1) (x % 256))
+pub low-turn : (k n i x : ℕ) (t out : List ℕ) → 0 < i → i ≤ length out → over (be k (n % 256 ^ k)) t ≡ over (be i (x % 256 ^ i)) out →
+    over (be k (n % 256 ^ k)) t ≡ over (be (i - 1) (x / 256 % 256 ^ (i - 1))) (set out (i - 1) (x % 256))
+unfolding overAt
 low-turn k n zero x t out p l e = absurd (omega arith)
 low-turn k n (suc i) x t out p l e =
     let q : suc i - 1 ≡ i = omega arith in
-    rw (q, drop-cons (set out i (x % 256)) i 0 (rw (length-set out i (x % 256)) l), getD-set-same out i (x % 256) 0 l, drop-set-lt (suc i) out i (x % 256) (omega arith))
-    (e ∙ ap (λ z. z ++ drop (suc i) out) (low-snoc i x) ∙ append-assoc (be i (x / 256 % 256 ^ i)) (x % 256 ∷ []) (drop (suc i) out))
+    let y = be i (x / 256 % 256 ^ i) in
+    let z : 0 + length y ≡ i = omega (arith, be-length i (x / 256 % 256 ^ i)) in
+    rw q (e ∙ ap (λ b. over b out) (low-snoc i x) ∙ at-last 0 (x % 256) y out (omega arith) ∙ ap (λ j. over y (set out j (x % 256))) z)
 
 -- ---- the fewest bytes, by the highest bit
 pub width-log : (n v : ℕ) → 2 ^ n ≤ v → v < 2 ^ suc n → width v ≡ 1 + n / 8
@@ -118,36 +124,26 @@ pub size-128 : (n : ℕ) → n ≡ 128 → normalSize n ≡ 0 ∷ []
 unfolding normalSize
 size-128 n e = rw (ifEq-no n 0 _ _ (λ z. omega arith), ifLt-no n 128 _ _ (omega arith), ifEq-yes n 128 _ _ e)
 
-pub size-long : (n : ℕ) → 128 < n → normalSize n ≡ (0x80 + width n) ∷ be (width n) n
+size-long : (n : ℕ) → 128 < n → normalSize n ≡ (0x80 + width n) ∷ be (width n) n
 unfolding normalSize
 size-long n l = rw (ifEq-no n 0 _ _ (λ z. omega arith), ifLt-no n 128 _ _ (omega arith), ifEq-no n 128 _ _ (λ z. omega arith))
 
-pub size-length-0 : (n : ℕ) → n ≡ 0 → length (normalSize n) ≡ 2
-size-length-0 n e = ap length (size-0 n e)
-
-pub size-length-1 : (n : ℕ) → (n ≡ 0 → ⊥) → n ≤ 128 → length (normalSize n) ≡ 1
-size-length-1 n e l = split n 128 (λ h. ap length (size-1 n e h)) (λ g. ap length (size-128 n (omega arith)))
-
-pub size-length-long : (n : ℕ) → 128 < n → length (normalSize n) ≡ 1 + width n
-size-length-long n l = ap length (size-long n l) ∙ omega (arith, be-length (width n) n)
-
 -- a size below 2 ^ 24 takes at most four bytes
-pub size-short : (n : ℕ) → n < 16777216 → length (normalSize n) ≤ 4
-size-short n h =
-    split n 129
-    (λ l. split 0 n (λ p. omega (arith, size-length-1 n (λ z. omega arith) (omega arith))) (λ z. omega (arith, size-length-0 n (omega arith))))
-    (λ g. omega (arith, size-length-long n (omega arith), width-least n 3 (omega arith) (omega arith)))
+pub size-most : (n : ℕ) → n < 16777216 → length (normalSize n) ≤ 4
+size-most zero h = omega (arith, size-zero)
+size-most (suc n) h =
+    split (suc n) 129 (λ l. omega (arith, size-small (suc n) (λ z. omega arith) (omega arith)))
+    (λ g. omega (arith, size-large (suc n) (omega arith), width-least (suc n) 3 (omega arith) (omega arith)))
 
 -- ---- the forms of an integer, by its eight bytes
-pub small : (v : ℕ) → v < 64 → signed 8 v ≡ pos v
-unfolding signed
-small v l = ifLt-yes (2 * v) (256 ^ 8) _ _ (omega arith)
+pub pos-is : (v : ℕ) → v < 2 ^ 63 → signed 8 v ≡ pos v
+pos-is v h = sym (to-signed v h) ∙ to-pos v h
 
 pub int-small : (v : ℕ) → v < 64 → normalInt (signed 8 v) ≡ (0x80 + v) ∷ []
 unfolding normalInt
-int-small v l = rw (small v l) (ifLt-yes v 64 _ _ l)
+int-small v l = rw (pos-is v (omega arith)) (ifLt-yes v 64 _ _ l)
 
-pub int-large : (v : ℕ) → 64 ≤ v → normalInt (signed 8 v) ≡ linteger (signed 8 v)
+int-large : (v : ℕ) → 64 ≤ v → normalInt (signed 8 v) ≡ linteger (signed 8 v)
 unfolding normalInt signed
 int-large v g = byLt (λ z. normalInt z ≡ linteger z) (2 * v) (256 ^ 8) (λ l. ifLt-no v 64 _ _ g) (λ l. refl)
 
@@ -163,7 +159,7 @@ complement m q v p h =
     let r : (q * m - 1 - v) % m ≡ m - 1 - v % m = ap (λ z. z % m) g ∙ native.Mathlib.Nat.mul-add-mod-self-right (q - 1 - v / m) m (m - 1 - v % m) ∙ mod-eq-of-lt (omega arith) in
     omega arith
 
-pub twos-low : (k v : ℕ) → k ≤ 8 → v < 256 ^ 8 → twos k (signed 8 v) ≡ v % 256 ^ k
+twos-low : (k v : ℕ) → k ≤ 8 → v < 256 ^ 8 → twos k (signed 8 v) ≡ v % 256 ^ k
 unfolding signed twos
 twos-low k v h l =
     let e : 256 ^ 8 ≡ 256 ^ (8 - k) * 256 ^ k = (let q : 8 - k + k ≡ 8 = omega arith in ap (λ n. 256 ^ n) (sym q) ∙ P.pow-add 256 (8 - k) k) in

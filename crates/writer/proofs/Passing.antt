@@ -9,15 +9,16 @@ use Rattle.format.specs.Tables.{count, rows, isText, leafWords, textWords, data
 use Rattle.format.specs.Normal.{normalSize, withSize, normalLeaf, normal, depth}
 use Rattle.format.proofs.Choices.{whether}
 use Rattle.format.proofs.TableLaws.{leaf-kind, other-kind}
-use Rattle.writer.specs.Rows.{kindAt, aAt, bAt, Stands, LeafRow, TextRow, Header}
-use Rattle.writer.specs.Surveys.{Placed, Longer, Shorter, Passed}
-use Rattle.writer.proofs.KindLaws.{group-row, string-is, edt-is}
-use Rattle.writer.proofs.Standing.{group-kind, group-data, text-data, text-struc, leaf-parts, group-parts, text-parts, join-leaf, join-group, join-text, stands-is, leaf-is, text-is, none-stands}
-use Rattle.writer.proofs.Judging.{GroupKind, KindOk}
-use Rattle.writer.proofs.StringLaws.{string-flat, string-size}
-use Rattle.writer.proofs.RunLaws.{normal-bound, box-length}
+use Rattle.table.specs.Rows.{kindAt, aAt, bAt, Stands, LeafRow, TextRow, Header}
+use Rattle.writer.specs.Surveys.{RowsPlaced, Longer, Shorter, RowsPassed}
+use Rattle.table.proofs.KindLaws.{group-row, string-is, edt-is}
+use Rattle.table.proofs.Standing.{group-kind, group-data, text-data, text-struc, leaf-parts, group-parts, text-parts, join-leaf, join-group, join-text, stands-is, leaf-is, text-is, none-stands}
+use Rattle.table.proofs.Judging.{GroupKind, KindOk}
+use Rattle.table.proofs.RunLaws.{string-flat}
+use Rattle.writer.proofs.StringLaws.{string-size}
+use Rattle.writer.proofs.Lengths.{normal-bound, container-length}
 
-pub passed-none : (w : List ℕ) (D d u p : ℕ) → u ≤ D → Passed w D d u p u p 0 0
+pub passed-none : (w : List ℕ) (D d u p : ℕ) → u ≤ D → RowsPassed w D d u p u p 0 0
 passed-none w D d u p h =
     record {
       onward = omega arith;
@@ -26,7 +27,7 @@ passed-none w D d u p h =
       back = λ e xs l x. record { items = xs; placed = x; shallow = omega arith };
     }
 
-pub passed-join : (w : List ℕ) (D d u p v q x r a b m n : ℕ) → Passed w D d u p v q a m → Passed w D d v q x r b n → Passed w D d u p x r (a + b) (m + n)
+pub passed-join : (w : List ℕ) (D d u p v q x r a b m n : ℕ) → RowsPassed w D d u p v q a m → RowsPassed w D d v q x r b n → RowsPassed w D d u p x r (a + b) (m + n)
 passed-join w D d u p v q x r a b m n f g =
     let o = f .onward in
     let k = g .onward in
@@ -50,7 +51,7 @@ passed-join w D d u p v q x r a b m n f g =
           record { items = t .items; placed = t .placed; shallow = omega (arith, t .shallow, s .shallow) };
     }
 
-pub passed-deeper : (w : List ℕ) (D d u p v q c n : ℕ) → Passed w D 0 u p v q c n → Passed w D d u p v q c n
+pub passed-deeper : (w : List ℕ) (D d u p v q c n : ℕ) → RowsPassed w D 0 u p v q c n → RowsPassed w D d u p v q c n
 passed-deeper w D d u p v q c n f =
     record {
       onward = f .onward;
@@ -63,7 +64,7 @@ passed-deeper w D d u p v q c n f =
 
 -- ---- one leaf
 module _ (w : List ℕ) (D u p : ℕ) where
-  leaf-back-on : (l : Leaf) → LeafRow w u p l → (e : ℕ) (xs : Items) → p + 1 ≤ e → Placed w D u p e xs → Shorter w D (u + length (leafWords l)) (p + 1) e xs
+  leaf-back-on : (l : Leaf) → LeafRow w u p l → (e : ℕ) (xs : Items) → p + 1 ≤ e → RowsPlaced w D u p e xs → Shorter w D (u + length (leafWords l)) (p + 1) e xs
   unfolding rows dataWords depth
   leaf-back-on l r e end h x = absurd (omega (arith, x .stands .number))
   leaf-back-on l r e (group g c xs) h x = absurd (omega (arith, r .kind, leaf-kind l, group-kind g c, group-row w u p e g c xs (x .stands) .0))
@@ -75,7 +76,7 @@ module _ (w : List ℕ) (D u p : ℕ) where
       let m : u + length (leafWords k) ≡ u + length (leafWords l) = ap (λ z. u + length (leafWords z)) q in
       record { items = xs; placed = record { stands = rw m at (s .1); fits = omega arith }; shallow = omega arith }
 
-  leaf-passed : (l : Leaf) → LeafRow w u p l → u + length (leafWords l) ≤ D → Passed w D 0 u p (u + length (leafWords l)) (p + 1) 1 (length (normalLeaf l))
+  leaf-passed : (l : Leaf) → LeafRow w u p l → u + length (leafWords l) ≤ D → RowsPassed w D 0 u p (u + length (leafWords l)) (p + 1) 1 (length (normalLeaf l))
   unfolding count normal dataWords depth
   leaf-passed l r h =
       record {
@@ -95,10 +96,10 @@ module _ (w : List ℕ) (D u p : ℕ) where
         back = leaf-back-on l r;
       }
 
-  pub passed-leaf : (l : Leaf) (v n : ℕ) → LeafRow w u p l → v ≡ u + length (leafWords l) → v ≤ D → n ≡ length (normalLeaf l) → Passed w D 0 u p v (p + 1) 1 n
+  pub passed-leaf : (l : Leaf) (v n : ℕ) → LeafRow w u p l → v ≡ u + length (leafWords l) → v ≤ D → n ≡ length (normalLeaf l) → RowsPassed w D 0 u p v (p + 1) 1 n
   passed-leaf l v n r e h m = rw (e, m) (leaf-passed l r (omega arith))
 
-  pub no-leaf : (e : ℕ) → p < e → kindAt w p < 7 → ((l : Leaf) → LeafRow w u p l → u + length (leafWords l) ≤ D → ⊥) → (xs : Items) → Placed w D u p e xs → ⊥
+  pub no-leaf : (e : ℕ) → p < e → kindAt w p < 7 → ((l : Leaf) → LeafRow w u p l → u + length (leafWords l) ≤ D → ⊥) → (xs : Items) → RowsPlaced w D u p e xs → ⊥
   unfolding rows dataWords
   no-leaf e h k f end x = absurd (omega (arith, x .stands .number))
   no-leaf e h k f (group g c xs) x = absurd (omega (arith, group-kind g c, group-row w u p e g c xs (x .stands) .0))
@@ -108,7 +109,7 @@ module _ (w : List ℕ) (D u p : ℕ) where
 
 -- ---- one string
 module _ (w : List ℕ) (D u p : ℕ) where
-  text-back-on : (c : Items) → TextRow w u p c → (e : ℕ) (xs : Items) → p + 1 ≤ e → Placed w D u p e xs → Shorter w D (u + length (textWords c)) (p + 1) e xs
+  text-back-on : (c : Items) → TextRow w u p c → (e : ℕ) (xs : Items) → p + 1 ≤ e → RowsPlaced w D u p e xs → Shorter w D (u + length (textWords c)) (p + 1) e xs
   unfolding rows depth
   text-back-on c r e end h x = absurd (omega (arith, x .stands .number))
   text-back-on c r e (leaf l xs) h x = absurd (omega (arith, r .kind, leaf-kind l, leaf-parts w u p e l xs (x .stands) .0 .kind))
@@ -123,11 +124,11 @@ module _ (w : List ℕ) (D u p : ℕ) where
       record { items = xs; placed = record { stands = rw m at (s .1); fits = omega arith }; shallow = omega arith })
       (λ t. absurd (other-kind g k t (sym (group-row w u p e g k xs (x .stands) .0) ∙ r .kind)))
 
-  text-passed : (d : ℕ) (c : Items) → TextRow w u p c → u + length (textWords c) ≤ D → Passed w D (suc d) u p (u + length (textWords c)) (p + 1) 1 (1 + length (normalSize (count c)) + count c)
+  text-passed : (d : ℕ) (c : Items) → TextRow w u p c → u + length (textWords c) ≤ D → RowsPassed w D (suc d) u p (u + length (textWords c)) (p + 1) 1 (1 + length (normalSize (count c)) + count c)
   unfolding count normal depth
   text-passed d c r h =
       let z = string-size c (r .chars) in
-      let b = box-length c in
+      let b = container-length c in
       let i : length (normalSize (length (normal c))) ≡ length (normalSize (count c)) = ap (λ k. length (normalSize k)) z in
       let y = string-flat c (r .chars) in
       record {
@@ -147,10 +148,11 @@ module _ (w : List ℕ) (D u p : ℕ) where
         back = text-back-on c r;
       }
 
-  pub passed-text : (d : ℕ) (c : Items) (v n m : ℕ) → TextRow w u p c → v ≡ u + length (textWords c) → v ≤ D → m ≡ count c → n ≡ length (normalSize m) → Passed w D (suc d) u p v (p + 1) 1 (1 + n + m)
+  pub passed-text : (d : ℕ) (c : Items) (v n m : ℕ) → TextRow w u p c → v ≡ u + length (textWords c) → v ≤ D → m ≡ count c → n ≡ length (normalSize m)
+      → RowsPassed w D (suc d) u p v (p + 1) 1 (1 + n + m)
   passed-text d c v n m r e h k z = rw (e, z, k) (text-passed d c r (omega arith))
 
-  pub no-text : (e : ℕ) → p < e → kindAt w p ≡ 9 → ((c : Items) → TextRow w u p c → u + length (textWords c) ≤ D → ⊥) → (xs : Items) → Placed w D u p e xs → ⊥
+  pub no-text : (e : ℕ) → p < e → kindAt w p ≡ 9 → ((c : Items) → TextRow w u p c → u + length (textWords c) ≤ D → ⊥) → (xs : Items) → RowsPlaced w D u p e xs → ⊥
   unfolding rows
   no-text e h k f end x = absurd (omega (arith, x .stands .number))
   no-text e h k f (leaf l xs) x = absurd (omega (arith, leaf-kind l, leaf-parts w u p e l xs (x .stands) .0 .kind))
@@ -162,7 +164,7 @@ module _ (w : List ℕ) (D u p : ℕ) where
       (λ t. absurd (other-kind g c t (sym (group-row w u p e g c xs (x .stands) .0) ∙ k)))
 
 -- a container has depth
-pub some-depth : (w : List ℕ) (D u p e : ℕ) → p < e → 7 ≤ kindAt w p → (xs : Items) → Placed w D u p e xs → 0 < depth xs
+pub some-depth : (w : List ℕ) (D u p e : ℕ) → p < e → 7 ≤ kindAt w p → (xs : Items) → RowsPlaced w D u p e xs → 0 < depth xs
 unfolding rows depth
 some-depth w D u p e h k end x = absurd (omega (arith, x .stands .number))
 some-depth w D u p e h k (leaf l xs) x = absurd (omega (arith, leaf-kind l, leaf-parts w u p e l xs (x .stands) .0 .kind))
@@ -177,12 +179,12 @@ pub record Inside (w : List ℕ) (D u p e : ℕ) (xs : Items) : Type 0 where
   pub row : GroupKind w p kind items
   pub number : aAt w p ≡ count items
   pub within : p + 1 + bAt w p ≤ e
-  pub placed : Placed w D u (p + 1) (p + 1 + bAt w p) items
-  pub behind : Placed w D (u + length (dataWords items)) (p + 1 + bAt w p) e after
+  pub placed : RowsPlaced w D u (p + 1) (p + 1 + bAt w p) items
+  pub behind : RowsPlaced w D (u + length (dataWords items)) (p + 1 + bAt w p) e after
   pub deep : suc (depth items) ≤ depth xs
   pub rest : depth after ≤ depth xs
 
-pub inside : (w : List ℕ) (D u p e : ℕ) → p < e → 7 ≤ kindAt w p → (kindAt w p ≡ 9 → ⊥) → (xs : Items) → Placed w D u p e xs → Inside w D u p e xs
+pub inside : (w : List ℕ) (D u p e : ℕ) → p < e → 7 ≤ kindAt w p → (kindAt w p ≡ 9 → ⊥) → (xs : Items) → RowsPlaced w D u p e xs → Inside w D u p e xs
 unfolding rows depth
 inside w D u p e h k n9 end x = absurd (omega (arith, x .stands .number))
 inside w D u p e h k n9 (leaf l xs) x = absurd (omega (arith, leaf-kind l, leaf-parts w u p e l xs (x .stands) .0 .kind))
@@ -213,7 +215,7 @@ module _ (w : List ℕ) (R D : ℕ) (h : Header w R D) where
   abbrev pub Alone : ℕ → ℕ → ℕ → ℕ → ℕ → ℕ → ℕ → Type 0
   Alone d u p v q c n = Longer w D d u p q v c n end
 
-  pub alone : (d u p v q c n : ℕ) → q ≤ R → Passed w D d u p v q c n → Alone d u p v q c n
+  pub alone : (d u p v q c n : ℕ) → q ≤ R → RowsPassed w D d u p v q c n → Alone d u p v q c n
   unfolding dataWords
   alone d u p v q c n l f =
       let b = f .fits in
@@ -229,7 +231,7 @@ module _ (w : List ℕ) (R D : ℕ) (h : Header w R D) where
   count-le (leaf l xs) = omega (arith, count-le xs)
   count-le (group g c xs) = omega (arith, count-le xs)
 
-  pub passed-bound : (d u p v q c n : ℕ) → q ≤ R → Passed w D d u p v q c n → (n ≤ 458752) × (c ≤ q - p)
+  pub passed-bound : (d u p v q c n : ℕ) → q ≤ R → RowsPassed w D d u p v q c n → (n ≤ 458752) × (c ≤ q - p)
   unfolding count normal dataWords
   passed-bound d u p v q c n l f =
       let a = alone d u p v q c n l f in
@@ -241,13 +243,13 @@ module _ (w : List ℕ) (R D : ℕ) (h : Header w R D) where
       (omega (arith, a .size), omega (arith, a .number, count-le (a .items)))
 
   -- the items are the only ones there
-  pub alone-is : (d u p v q c n : ℕ) → (a : Alone d u p v q c n) → (xs : Items) → Placed w D u p q xs → xs ≡ a .items
+  pub alone-is : (d u p v q c n : ℕ) → (a : Alone d u p v q c n) → (xs : Items) → RowsPlaced w D u p q xs → xs ≡ a .items
   alone-is d u p v q c n a xs x = sym (stands-is w u p q xs (x .stands)) ∙ stands-is w u p q (a .items) (a .placed .stands)
 
-  box-with : (d u p v n : ℕ) (xs : Items) → Stands w u (p + 1) (p + 1 + bAt w p) xs → n ≡ length (normal xs) → v ≡ u + length (dataWords xs) → v ≤ D → depth xs ≤ d →
-      7 ≤ kindAt w p → (kindAt w p ≡ 9 → ⊥) → aAt w p ≡ count xs → KindOk w p (p + 1 + bAt w p) → Passed w D (suc d) u p v (p + 1 + bAt w p) 1 (1 + length (normalSize n) + n)
+  container-with : (d u p v n : ℕ) (xs : Items) → Stands w u (p + 1) (p + 1 + bAt w p) xs → n ≡ length (normal xs) → v ≡ u + length (dataWords xs) → v ≤ D → depth xs ≤ d →
+      7 ≤ kindAt w p → (kindAt w p ≡ 9 → ⊥) → aAt w p ≡ count xs → KindOk w p (p + 1 + bAt w p) → RowsPassed w D (suc d) u p v (p + 1 + bAt w p) 1 (1 + length (normalSize n) + n)
   unfolding count normal depth
-  box-with d u p v n xs s y x t i k n9 z o =
+  container-with d u p v n xs s y x t i k n9 z o =
       let kk = o .rule xs (string-is w u (p + 1) (p + 1 + bAt w p) xs s) (edt-is w u (p + 1) (p + 1 + bAt w p) xs s) in
       let b : bAt w p ≡ rows xs = omega (arith, s .number) in
       let q : p + 1 + bAt w p ≡ p + 1 + rows xs = omega arith in
@@ -272,7 +274,7 @@ module _ (w : List ℕ) (R D : ℕ) (h : Header w R D) where
                 fits = omega arith;
               };
               number = omega arith;
-              size = omega (arith, length-append (withSize (normal xs)) (normal ys), box-length xs, ap (λ j. length (normalSize j)) y);
+              size = omega (arith, length-append (withSize (normal xs)) (normal ys), container-length xs, ap (λ j. length (normalSize j)) y);
               words = omega arith;
               shallow = omega arith;
             };
@@ -280,12 +282,12 @@ module _ (w : List ℕ) (R D : ℕ) (h : Header w R D) where
             let j = inside w D u p e (omega arith) k n9 ys f in
             let m : j .items ≡ xs = sym (stands-is w u (p + 1) (p + 1 + bAt w p) (j .items) (j .placed .stands)) ∙ stands-is w u (p + 1) (p + 1 + bAt w p) xs s in
             let a : u + length (dataWords (j .items)) ≡ v = ap (λ c. u + length (dataWords c)) m ∙ sym x in
-            record { items = j .after; placed = subst (λ (c : ℕ). Placed w D c (p + 1 + bAt w p) e (j .after)) a (j .behind); shallow = j .rest };
+            record { items = j .after; placed = subst (λ (c : ℕ). RowsPlaced w D c (p + 1 + bAt w p) e (j .after)) a (j .behind); shallow = j .rest };
       }
 
-  pub passed-box : (d u p v c n : ℕ) → p + 1 + bAt w p ≤ R → 7 ≤ kindAt w p → (kindAt w p ≡ 9 → ⊥) → aAt w p ≡ c → KindOk w p (p + 1 + bAt w p) → Passed w D d u (p + 1) v (p + 1 + bAt w p) c n →
-      Passed w D (suc d) u p v (p + 1 + bAt w p) 1 (1 + length (normalSize n) + n)
+  pub passed-container : (d u p v c n : ℕ) → p + 1 + bAt w p ≤ R → 7 ≤ kindAt w p → (kindAt w p ≡ 9 → ⊥) → aAt w p ≡ c → KindOk w p (p + 1 + bAt w p)
+      → RowsPassed w D d u (p + 1) v (p + 1 + bAt w p) c n → RowsPassed w D (suc d) u p v (p + 1 + bAt w p) 1 (1 + length (normalSize n) + n)
   unfolding count dataWords normal depth
-  passed-box d u p v c n l k n9 e o f =
+  passed-container d u p v c n l k n9 e o f =
       let a = alone d u (p + 1) v (p + 1 + bAt w p) c n l f in
-      box-with d u p v n (a .items) (a .placed .stands) (omega (arith, a .size)) (omega (arith, a .words)) (f .fits) (omega (arith, a .shallow)) k n9 (omega (arith, a .number)) o
+      container-with d u p v n (a .items) (a .placed .stands) (omega (arith, a .size)) (omega (arith, a .words)) (f .fits) (omega (arith, a .shallow)) k n9 (omega (arith, a .number)) o

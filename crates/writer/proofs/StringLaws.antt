@@ -6,7 +6,7 @@ use native.Mathlib.Omega.{arith}
 use lib.ListN.{length}
 use Rattle.format.specs.Items.{Leaf, int, bits, char, bool, empty, xtra, Items, CHAR, leafKind, isString}
 use Rattle.format.specs.Tables.{count, leafB, codes}
-use Rattle.format.specs.Normal.{normalLeaf, normal, depth}
+use Rattle.format.specs.Normal.{normalLeaf, normal}
 use Rattle.format.proofs.TableLaws.{by-chars, codes-length}
 
 char-normal : (l : Leaf) → leafKind l ≡ CHAR → normalLeaf l ≡ leafB 0 l ∷ []
@@ -21,10 +21,6 @@ char-normal (xtra n) k = absurd (omega arith)
 pub string-normal : (c : Items) → isString c ≡ true → normal c ≡ codes c
 unfolding normal codes
 string-normal = by-chars (λ c. normal c ≡ codes c) refl (λ l xs k e. ap₂ _++_ (char-normal l k) e)
-
-pub string-flat : (c : Items) → isString c ≡ true → depth c ≡ 0
-unfolding depth
-string-flat = by-chars (λ c. depth c ≡ 0) refl (λ l xs k e. e)
 
 pub string-size : (c : Items) → isString c ≡ true → length (normal c) ≡ count c
 string-size c t = ap length (string-normal c t) ∙ codes-length c

@@ -12,27 +12,27 @@ use Rattle.format.specs.Items.{Items}
 use Rattle.format.specs.Tables.{count, dataWords, itemsOf}
 use Rattle.format.specs.Normal.{normal, depth}
 use Rattle.format.specs.Answers.{over, unwritten, put, writingOf, writing}
-use Rattle.format.proofs.Choices.{ifLt-yes, ifLt-no, byLt}
+use Rattle.format.proofs.Choices.{ifLt-yes, ifLt-no, byLt, clash}
 use Rattle.format.proofs.ItemLaws.{bytes-none}
-use Rattle.writer.specs.Rows.{Stands, itemsAt, Run, Header, HeaderJudged, isSome}
-use Rattle.writer.specs.Surveys.{Placed, NoItems, TooDeep, Passed}
-use Rattle.writer.specs.Measures.{Fits}
+use Rattle.table.specs.Rows.{Stands, itemsAt, Run, Header, HeaderJudged}
+use Rattle.table.specs.InOrder.{isSome}
+use Rattle.writer.specs.Surveys.{RowsPlaced, NoItems, TooDeep, RowsPassed}
+use Rattle.writer.specs.Measures.{RunWritable}
 use Rattle.writer.specs.Verdicts.{verdictOf, verdict}
-use Rattle.writer.proofs.LeafRows.{clash}
-use Rattle.writer.proofs.Passing.{alone, alone-is}
-use Rattle.writer.proofs.Standing.{stands-is, run-of}
-use Rattle.writer.proofs.Whole.{whole, items-of}
+use Rattle.writer.proofs.Passing.{Alone, alone, alone-is}
+use Rattle.table.proofs.Standing.{stands-is, run-of}
+use Rattle.table.proofs.Whole.{whole, items-of}
 
 -- the items of a whole table, as the code finds them
-abbrev pub allOf : List ℕ → Items
-allOf w = itemsAt w 0 (getD w 0 0)
+abbrev pub tableItems : List ℕ → Items
+tableItems w = itemsAt w 0 (getD w 0 0)
 
-pub record Ready (w : List ℕ) : Type 0 where
+pub record TableReady (w : List ℕ) : Type 0 where
   pub long : 4 ≤ length w
   pub run : Run w 0 (getD w 0 0)
-  pub is : itemsOf w ≡ some (allOf w)
+  pub is : itemsOf w ≡ some (tableItems w)
 
-ready : (w : List ℕ) (xs : Items) → itemsOf w ≡ some xs → Ready w
+ready : (w : List ℕ) (xs : Items) → itemsOf w ≡ some xs → TableReady w
 ready w xs e =
     let t = whole w xs e in
     record {
@@ -42,7 +42,7 @@ ready w xs e =
     }
 
 -- ---- the verdict, as the code reaches it
-pub verdict-none : (w : List ℕ) → ((xs : Items) → itemsOf w ≡ some xs → ⊥) → Refused 12 ≡ verdict w
+verdict-none : (w : List ℕ) → ((xs : Items) → itemsOf w ≡ some xs → ⊥) → Refused 12 ≡ verdict w
 unfolding verdict verdictOf
 verdict-none w n = go (itemsOf w) refl
   where
@@ -59,7 +59,7 @@ no-header w true h e = clash true refl e
 no-header w false n e = verdict-none w (λ xs f. n (whole w xs f .formed .header))
 
 module _ (w : List ℕ) (R D : ℕ) (h : Header w R D) where
-  all-placed : (xs : Items) → itemsOf w ≡ some xs → Placed w D 0 0 R xs
+  all-placed : (xs : Items) → itemsOf w ≡ some xs → RowsPlaced w D 0 0 R xs
   all-placed xs e =
       let t = whole w xs e in
       let d = h .words in
@@ -84,52 +84,50 @@ module _ (w : List ℕ) (R D : ℕ) (h : Header w R D) where
       go none e q = let z : _≡_ {A = ℕ} 0 1 = cc in absurd (omega arith)
       go (some xs) e q = sym (verdict-some xs e ∙ ifLt-yes 16 (depth xs) _ _ (n xs (all-placed xs e)))
 
-  module _ (v c n : ℕ) (f : Passed w D 16 0 0 v R c n) where
+  module _ (v c n : ℕ) (f : RowsPassed w D 16 0 0 v R c n) where
     -- what stands there is all that can
+    abbrev all : Alone w R D h 16 0 0 v R c n
+    all = alone w R D h 16 0 0 v R c n (omega arith) f
+
     abbrev found : Items
-    found = alone w R D h 16 0 0 v R c n (omega arith) f .items
+    found = all .items
 
     only : (xs : Items) → itemsOf w ≡ some xs → xs ≡ found
-    only xs e = alone-is w R D h 16 0 0 v R c n (alone w R D h 16 0 0 v R c n (omega arith) f) xs (all-placed xs e)
+    only xs e = alone-is w R D h 16 0 0 v R c n all xs (all-placed xs e)
 
     pub miscounted : (c ≡ getD w 1 0 → ⊥) → Refused 12 ≡ verdict w
     unfolding count
     miscounted g =
         verdict-none w (λ xs e.
-        let a = alone w R D h 16 0 0 v R c n (omega arith) f in
         let q = ap count (only xs e) in
-        g (omega (arith, a .number, whole w xs e .number)))
+        g (omega (arith, all .number, whole w xs e .number)))
 
     pub misplaced : (v ≡ D → ⊥) → Refused 12 ≡ verdict w
     unfolding dataWords
     misplaced g =
         verdict-none w (λ xs e.
-        let a = alone w R D h 16 0 0 v R c n (omega arith) f in
         let q : length (dataWords xs) ≡ length (dataWords found) = ap (λ z. length (dataWords z)) (only xs e) in
         let d = h .words in
-        g (omega (arith, a .words, whole w xs e .words)))
+        g (omega (arith, all .words, whole w xs e .words)))
 
     module _ (cs : c ≡ getD w 1 0) (ws : v ≡ D) where
       all-found : itemsOf w ≡ some found
       unfolding count dataWords
       all-found =
-          let a = alone w R D h 16 0 0 v R c n (omega arith) f in
           let r = h .rows in
           let d = h .words in
-          items-of w (rw (r, d) at h) found (subst (λ (i : ℕ). Stands w 0 0 i found) r (a .placed .stands)) (omega (arith, a .number)) (omega (arith, a .words))
+          items-of w (rw (r, d) at h) found (subst (λ (i : ℕ). Stands w 0 0 i found) r (all .placed .stands)) (omega (arith, all .number)) (omega (arith, all .words))
 
       pub verdict-long : 65536 < n → Refused 14 ≡ verdict w
       unfolding verdictOf normal depth
       verdict-long l =
-          let a = alone w R D h 16 0 0 v R c n (omega arith) f in
-          sym (verdict-some found all-found ∙ ifLt-no 16 (depth found) _ _ (omega (arith, a .shallow)) ∙ ifLt-yes 65536 (length (normal found)) _ _ (omega (arith, a .size)))
+          sym (verdict-some found all-found ∙ ifLt-no 16 (depth found) _ _ (omega (arith, all .shallow)) ∙ ifLt-yes 65536 (length (normal found)) _ _ (omega (arith, all .size)))
 
       pub verdict-normal : n ≤ 65536 → Normal n ≡ verdict w
       unfolding verdictOf normal depth
       verdict-normal l =
-          let a = alone w R D h 16 0 0 v R c n (omega arith) f in
-          let q : n ≡ length (normal found) = omega (arith, a .size) in
-          sym (verdict-some found all-found ∙ ifLt-no 16 (depth found) _ _ (omega (arith, a .shallow)) ∙ ifLt-no 65536 (length (normal found)) _ _ (omega arith) ∙ ap Normal (sym q))
+          let q : n ≡ length (normal found) = omega (arith, all .size) in
+          sym (verdict-some found all-found ∙ ifLt-no 16 (depth found) _ _ (omega (arith, all .shallow)) ∙ ifLt-no 65536 (length (normal found)) _ _ (omega arith) ∙ ap Normal (sym q))
 
 -- ---- from the verdict to the answer
 refused-of : (n : ℕ) (o : Option Items) (t : List ℕ) → Refused n ≡ verdictOf o → writingOf o t ≡ unwritten n 0 t
@@ -144,9 +142,9 @@ refused-of n (some xs) t =
 
 -- a table with a normal form of n bytes, at most sixteen deep
 pub record Sound (w : List ℕ) (n : ℕ) : Type 0 where
-  pub ready : Ready w
-  pub shallow : depth (allOf w) ≤ 16
-  pub size : n ≡ length (normal (allOf w))
+  pub ready : TableReady w
+  pub shallow : depth (tableItems w) ≤ 16
+  pub size : n ≡ length (normal (tableItems w))
   pub small : n ≤ 65536
 
 normal-of : (n : ℕ) (xs : Items) → Normal n ≡ verdictOf (some xs) → (depth xs ≤ 16) × (length (normal xs) ≤ 65536) × (n ≡ length (normal xs))
@@ -166,27 +164,27 @@ sound-of w n e = go (itemsOf w) refl e
     go none q e = let z : _≡_ {A = ℕ} 0 1 = cc in absurd (omega arith)
     go (some xs) q e =
         let r = ready w xs q in
-        let k = normal-of n (allOf w) (e ∙ ap verdictOf (sym q ∙ r .is)) in
+        let k = normal-of n (tableItems w) (e ∙ ap verdictOf (sym q ∙ r .is)) in
         record { ready = r; shallow = k .0; size = k .2; small = omega arith }
 
-normal-put : (w : List ℕ) (n : ℕ) (t : List ℕ) → Sound w n → writing w t ≡ put t (normal (allOf w))
+normal-put : (w : List ℕ) (n : ℕ) (t : List ℕ) → Sound w n → writing w t ≡ put t (normal (tableItems w))
 unfolding writing writingOf
 normal-put w n t s =
     let z = s .size in
     let l = s .small in
-    ap (λ o. writingOf o t) (s .ready .is) ∙ ifLt-no 16 (depth (allOf w)) _ _ (s .shallow) ∙ ifLt-no 65536 (length (normal (allOf w))) _ _ (omega arith)
+    ap (λ o. writingOf o t) (s .ready .is) ∙ ifLt-no 16 (depth (tableItems w)) _ _ (s .shallow) ∙ ifLt-no 65536 (length (normal (tableItems w))) _ _ (omega arith)
 
 pub write-refused : (w t : List ℕ) (n : ℕ) → Refused n ≡ verdict w → writing w t ≡ unwritten n 0 t
 unfolding writing verdict
 write-refused w t n e = refused-of n (itemsOf w) t e
 
-pub write-short : (w t : List ℕ) (n : ℕ) → Normal n ≡ verdict w → length t < n → writing w t ≡ unwritten 15 n t
+pub write-told : (w t : List ℕ) (n : ℕ) → Normal n ≡ verdict w → length t < n → writing w t ≡ unwritten 15 n t
 unfolding put
-write-short w t n e l =
+write-told w t n e l =
     let s = sound-of w n e in
     normal-put w n t s ∙ rw (← s .size) (ifLt-yes (length t) n _ _ l)
 
-pub write-whole : (w t : List ℕ) (n : ℕ) → Normal n ≡ verdict w → n ≤ length t → writing w t ≡ unwritten 0 n (over (normal (allOf w)) t)
+pub write-whole : (w t : List ℕ) (n : ℕ) → Normal n ≡ verdict w → n ≤ length t → writing w t ≡ unwritten 0 n (over (normal (tableItems w)) t)
 unfolding put
 write-whole w t n e l =
     let s = sound-of w n e in
@@ -195,9 +193,9 @@ write-whole w t n e l =
 pub write-none : (w t : List ℕ) (n : ℕ) → Normal n ≡ verdict w → n ≤ length t → n ≡ 0 → writing w t ≡ unwritten 0 n t
 unfolding over normal
 write-none w t n e l z =
-    write-whole w t n e l ∙ ap (λ xs. unwritten 0 n (over (normal xs) t)) (bytes-none (allOf w) (sym (sound-of w n e .size) ∙ z))
+    write-whole w t n e l ∙ ap (λ xs. unwritten 0 n (over (normal xs) t)) (bytes-none (tableItems w) (sym (sound-of w n e .size) ∙ z))
 
-pub whole-fits : (w : List ℕ) (n k : ℕ) → Normal n ≡ verdict w → n ≤ k → Fits w 0 (getD w 0 0) 16 k
+pub whole-fits : (w : List ℕ) (n k : ℕ) → Normal n ≡ verdict w → n ≤ k → RunWritable w 0 (getD w 0 0) 16 k
 whole-fits w n k e l =
     let s = sound-of w n e in
     let z = s .size in

@@ -1,5 +1,4 @@
--- What the contracts cite beside the meanings: rows by position, the parts of a normal form, lengths and room, the survey and the verdict on a table.
-pub mod Rows
+-- What the contracts cite beside the meanings: the parts of a normal form, lengths and room, the survey and the verdict on a table.
 pub mod Forms
 pub mod Measures
 pub mod Surveys

@@ -1,12 +1,12 @@
 // The normal form of an item without elements, from its row: its length, and its bytes.
 ghost use mathlib.Core.Path.{_≡_};
-ghost use Prim.Native.Nat.{_+_, _*_, _≤_, _<_};
+ghost use Prim.Native.Nat.{_+_, _*_, _/_, _≤_, _<_};
 ghost use mathlib.Core.List.{_∷_};
 ghost use lib.ListN.{length};
 ghost use Rattle.format.specs.Normal.{normalLeaf, normalSize};
 ghost use Rattle.format.specs.Answers.{over};
-ghost use Rattle.writer.specs.Rows.{kindAt, aAt, leafAt, LeafAt};
-ghost use Rattle.writer.specs.Forms.{bitsLength, marker, Kept, keptBytes, counted, plainByte};
+ghost use Rattle.table.specs.Rows.{kindAt, aAt, bAt, leafAt, LeafAt, Kept, keptBytes};
+ghost use Rattle.writer.specs.Forms.{bitsLength, marker, numbered, plainByte};
 use crate::numbers::int_length;
 use crate::numbers::put_int;
 use crate::numbers::put_low;
@@ -15,6 +15,11 @@ use crate::numbers::put_tagged;
 use crate::numbers::put_word;
 use crate::numbers::size_length;
 use crate::numbers::width;
+use format::kinds::BITS;
+use format::kinds::BOOL;
+use format::kinds::CHAR;
+use format::kinds::EMPTY;
+use format::kinds::INT;
 
 // How many bytes a BITS of `n` bits takes.
 pub fn bits_length(n: usize) -> usize
@@ -31,7 +36,7 @@ pub fn bits_length(n: usize) -> usize
 // The bits of a BITS of fewer than 64, with a 1 before them, as a number.
 fn marked(table: &[u64], p: usize) -> u64
     requires { ⌜ LeafAt (now table) p × (kindAt (now table) p ≡ 2) × (aAt (now table) p < 64) ⌝ }
-    ensures { λ r. ⌜ r ≡ marker (leafAt (now (table .entry)) p) ⌝ }
+    ensures { λ r. ⌜ r ≡ marker (now (table .entry)) (bAt (now (table .entry)) p) (aAt (now (table .entry)) p) ⌝ }
 {
     let bits = table[3 * p + 5];
     if bits == 0 {
@@ -41,7 +46,7 @@ fn marked(table: &[u64], p: usize) -> u64
     (1u64 << bits) + (table[first] >> (64 - bits))
 }
 
-fn put_short(table: &[u64], p: usize, out: &mut [u8]) -> usize
+fn put_sbits(table: &[u64], p: usize, out: &mut [u8]) -> usize
     requires { ⌜ LeafAt (now table) p × (kindAt (now table) p ≡ 2) × (aAt (now table) p < 64) ⌝ }
     requires { ⌜ length (normalLeaf (leafAt (now table) p)) ≤ length (now out) ⌝ }
     ensures { λ r. ⌜ r ≡ length (normalLeaf (leafAt (now (table .entry)) p)) ⌝ }
@@ -56,7 +61,7 @@ fn put_short(table: &[u64], p: usize, out: &mut [u8]) -> usize
 // So many bits from the data word `b` on, left-adjusted in bytes: the whole words among them, and then the first bytes of a last
 // word.
 pub fn put_bytes(table: &[u64], b: usize, bits: usize, out: &mut [u8])
-    requires { ⌜ Kept (now table) b bits × (length (keptBytes (now table) b bits) ≤ length (now out)) ⌝ }
+    requires { ⌜ Kept (now table) b bits × ((bits + 7) / 8 ≤ length (now out)) ⌝ }
     ensures { λ r. ⌜ now (out .exit) ≡ over (keptBytes (now (table .entry)) b bits) (now (out .entry)) ⌝ }
 {
     let first = 3 * (table[0] as usize) + 4 + b;
@@ -80,9 +85,9 @@ pub fn put_bytes(table: &[u64], b: usize, bits: usize, out: &mut [u8])
 }
 
 // The number of bits, and then the bits.
-fn put_counted(table: &[u64], p: usize, out: &mut [u8])
-    requires { ⌜ LeafAt (now table) p × (kindAt (now table) p ≡ 2) × (length (counted (leafAt (now table) p)) ≤ length (now out)) ⌝ }
-    ensures { λ r. ⌜ now (out .exit) ≡ over (counted (leafAt (now (table .entry)) p)) (now (out .entry)) ⌝ }
+fn put_numbered(table: &[u64], p: usize, out: &mut [u8])
+    requires { ⌜ LeafAt (now table) p × (kindAt (now table) p ≡ 2) × (length (numbered (now table) (bAt (now table) p) (aAt (now table) p)) ≤ length (now out)) ⌝ }
+    ensures { λ r. ⌜ now (out .exit) ≡ over (numbered (now (table .entry)) (bAt (now (table .entry)) p) (aAt (now (table .entry)) p)) (now (out .entry)) ⌝ }
 {
     let bits = table[3 * p + 5];
     put_int(out, bits);
@@ -104,7 +109,7 @@ pub fn put_head(out: &mut [u8], byte: u8, size: usize)
     put_size(&mut out[1..], size);
 }
 
-fn put_long(table: &[u64], p: usize, out: &mut [u8]) -> usize
+fn put_lbits(table: &[u64], p: usize, out: &mut [u8]) -> usize
     requires { ⌜ LeafAt (now table) p × (kindAt (now table) p ≡ 2) × (64 ≤ aAt (now table) p) ⌝ }
     requires { ⌜ length (normalLeaf (leafAt (now table) p)) ≤ length (now out) ⌝ }
     ensures { λ r. ⌜ r ≡ length (normalLeaf (leafAt (now (table .entry)) p)) ⌝ }
@@ -114,7 +119,7 @@ fn put_long(table: &[u64], p: usize, out: &mut [u8]) -> usize
     let size = int_length(bits) + ((bits as usize) + 7) / 8;
     put_head(out, 0xc1, size);
     let used = 1 + size_length(size);
-    put_counted(table, p, &mut out[used..]);
+    put_numbered(table, p, &mut out[used..]);
     used + size
 }
 
@@ -123,13 +128,13 @@ fn plain_byte(kind: u64, b: u64) -> u8
     requires { ⌜ (kind ≡ 3 → b < 128) × ((kind ≡ 3 → ⊥) → b < 4) ⌝ }
     ensures { λ r. ⌜ r ≡ plainByte kind b ⌝ }
 {
-    if kind == 3 {
+    if kind == CHAR {
         return b as u8;
     }
-    if kind == 4 {
+    if kind == BOOL {
         return (0xfc + b) as u8;
     }
-    if kind == 5 {
+    if kind == EMPTY {
         return 0xfe;
     }
     (0xf8 + b) as u8
@@ -142,15 +147,15 @@ pub fn put_leaf(table: &[u64], p: usize, out: &mut [u8]) -> usize
 {
     let kind = table[3 * p + 4];
     let b = table[3 * p + 6];
-    if kind == 1 {
+    if kind == INT {
         put_int(out, b);
         return int_length(b);
     }
-    if kind == 2 {
+    if kind == BITS {
         if table[3 * p + 5] < 64 {
-            return put_short(table, p, out);
+            return put_sbits(table, p, out);
         }
-        return put_long(table, p, out);
+        return put_lbits(table, p, out);
     }
     out[0] = plain_byte(kind, b);
     1

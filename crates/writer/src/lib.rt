@@ -1,5 +1,4 @@
 // The normal form of the items in a table: its length, and its bytes; or the number with which the table is refused.
-mod judge;
 mod leaves;
 mod numbers;
 mod put;
@@ -7,14 +6,21 @@ mod survey;
 
 ghost use mathlib.Core.Path.{_≡_};
 ghost use Rattle.format.specs.Answers.{writing};
-ghost use Rattle.writer.specs.Rows.{Header};
+ghost use Rattle.table.specs.Rows.{Header};
 ghost use Rattle.writer.specs.Surveys.{TooDeep};
 ghost use Rattle.writer.specs.Verdicts.{verdict};
-use crate::judge::header_ok;
-use crate::judge::rows_ok;
+ghost use Rattle.format.specs.Refusals.{depthLimit};
 use crate::put::write_run;
 use crate::survey::Surveyed;
 use crate::survey::survey_run;
+use format::fault::NORMAL_LONG;
+use format::fault::NOT_A_TABLE;
+use format::fault::OUTPUT_SHORT;
+use format::fault::TOO_NESTED;
+use format::limits::DEEPEST;
+use format::limits::MOST_BYTES;
+use table::judge::rows_ok;
+use table::rows::header_ok;
 
 // A number by the shears, and the length that was written (0) or is needed (15); with other numbers it is 0.
 pub struct Written {
@@ -31,36 +37,36 @@ enum Verdict {
 // A table whose items, if it has any, stand too deep: so deep that the survey gave up, and each row is judged by itself.
 fn too_deep(table: &[u64], rows: usize, words: usize) -> Verdict
     requires { ⌜ Header (now table) rows words ⌝ }
-    requires { ⌜ TooDeep (now table) words 16 0 0 rows ⌝ }
+    requires { ⌜ TooDeep (now table) words depthLimit 0 0 rows ⌝ }
     ensures { λ r. ⌜ r ≡ verdict (now (table .entry)) ⌝ }
 {
     if rows_ok(table, rows, words) {
-        return Verdict::Refused(13);
+        return Verdict::Refused(TOO_NESTED);
     }
-    Verdict::Refused(12)
+    Verdict::Refused(NOT_A_TABLE)
 }
 
 fn judge_table(table: &[u64]) -> Verdict
     ensures { λ r. ⌜ r ≡ verdict (now (table .entry)) ⌝ }
 {
     if !header_ok(table) {
-        return Verdict::Refused(12);
+        return Verdict::Refused(NOT_A_TABLE);
     }
     let rows = table[0] as usize;
     let words = table[3] as usize;
-    let found = survey_run(table, 0, rows, 0, 16);
+    let found = survey_run(table, 0, rows, 0, DEEPEST);
     match found {
-        Surveyed::Wrong => Verdict::Refused(12),
+        Surveyed::Wrong => Verdict::Refused(NOT_A_TABLE),
         Surveyed::Deep => too_deep(table, rows, words),
-        Surveyed::Whole(n, count, past) => {
+        Surveyed::Whole(n, count, used) => {
             if count != table[1] {
-                return Verdict::Refused(12);
+                return Verdict::Refused(NOT_A_TABLE);
             }
-            if past != words {
-                return Verdict::Refused(12);
+            if used != words {
+                return Verdict::Refused(NOT_A_TABLE);
             }
-            if n > 65536 {
-                return Verdict::Refused(14);
+            if n > MOST_BYTES {
+                return Verdict::Refused(NORMAL_LONG);
             }
             Verdict::Normal(n)
         }
@@ -68,7 +74,7 @@ fn judge_table(table: &[u64]) -> Verdict
 }
 
 // The normal form of a table's items, over the front of the output. Nothing is written unless all of it fits, and nothing
-// past it.
+// behind it.
 pub fn write(table: &[u64], output: &mut [u8]) -> Written
     ensures { λ r. ⌜ r .number ≡ writing (now (table .entry)) (now (output .entry)) .number ⌝ }
     ensures { λ r. ⌜ r .length ≡ writing (now (table .entry)) (now (output .entry)) .length ⌝ }
@@ -79,14 +85,17 @@ pub fn write(table: &[u64], output: &mut [u8]) -> Written
         Verdict::Refused(number) => Written { number, length: 0 },
         Verdict::Normal(length) => {
             if output.len() < length {
-                return Written { number: 15, length };
+                return Written {
+                    number: OUTPUT_SHORT,
+                    length,
+                };
             }
             // Of no items nothing is written, and whoever asks for their length is answered at once.
             if length == 0 {
                 return Written { number: 0, length };
             }
             let rows = table[0] as usize;
-            write_run(table, 0, rows, 16, output);
+            write_run(table, 0, rows, DEEPEST, output);
             Written { number: 0, length }
         }
     }

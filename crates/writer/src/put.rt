@@ -1,17 +1,23 @@
 // The bytes of the normal form of the items in a run of rows, where they are known to fit. Each row is visited once.
 ghost use mathlib.Core.Path.{_≡_};
-ghost use mathlib.Core.List.{_∷_, _++_};
+ghost use mathlib.Core.List.{_∷_};
 ghost use Prim.Native.Nat.{_+_, _-_, _*_, _≤_};
-ghost use lib.ListN.{length, take, drop};
+ghost use lib.ListN.{length};
 ghost use Rattle.format.specs.Normal.{normal, withSize};
 ghost use Rattle.format.specs.Answers.{over};
-ghost use Rattle.writer.specs.Rows.{itemsAt, TextAt, textAt};
-ghost use Rattle.writer.specs.Measures.{Fits, FitsBox, headByte, moved};
+ghost use Rattle.format.specs.Lent.{overAt};
+ghost use Rattle.table.specs.Rows.{itemsAt, TextAt, textAt};
+ghost use Rattle.writer.specs.Measures.{RunWritable, ContainerWritable, headByte, moved};
 ghost use Rattle.writer.specs.Forms.{codesFrom, Alike};
 use crate::leaves::put_bytes;
 use crate::leaves::put_head;
 use crate::leaves::put_leaf;
 use crate::numbers::size_length;
+use format::kinds::CHAR;
+use format::kinds::EDT;
+use format::kinds::INT;
+use format::kinds::STRING;
+use format::kinds::STRUC;
 
 // Moves the `n` bytes from `from` on further on by `by` bytes.
 fn shift(out: &mut [u8], from: usize, n: usize, by: usize)
@@ -45,7 +51,7 @@ fn write_string(table: &[u64], p: usize, out: &mut [u8]) -> usize
 fn head_byte(kind: u64) -> u8
     ensures { λ r. ⌜ r ≡ headByte kind ⌝ }
 {
-    if kind == 8 {
+    if kind == EDT {
         return 0xc3;
     }
     0xc2
@@ -59,13 +65,13 @@ struct Single {
 }
 
 const CHARS: Single = Single {
-    kind: 3,
+    kind: CHAR,
     most: 128,
     low: 0,
 };
 
 const INTS: Single = Single {
-    kind: 1,
+    kind: INT,
     most: 64,
     low: 0x80,
 };
@@ -74,7 +80,7 @@ const INTS: Single = Single {
 fn put_singles(table: &[u64], p: usize, to: usize, one: Single, out: &mut [u8], n: usize) -> usize
     requires { ⌜ (p ≤ to) × (3 * to + 4 ≤ length (now table)) × (n + (to - p) ≤ length (now out)) × (one .low + one .most ≤ 256) ⌝ }
     ensures { λ q. ⌜ Alike (now (table .entry)) (one .kind) (one .most) p to q ⌝ }
-    ensures { λ q. ⌜ now (out .exit) ≡ take n (now (out .entry)) ++ over (codesFrom (now (table .entry)) (one .low) p (q - p)) (drop n (now (out .entry))) ⌝ }
+    ensures { λ q. ⌜ now (out .exit) ≡ overAt n (codesFrom (now (table .entry)) (one .low) p (q - p)) (now (out .entry)) ⌝ }
 {
     let kind = one.kind;
     let most = one.most;
@@ -104,7 +110,7 @@ fn write_container(
     depth: usize,
     out: &mut [u8],
 ) -> usize
-    requires { ⌜ FitsBox (now table) from to depth (length (now out)) ⌝ }
+    requires { ⌜ ContainerWritable (now table) from to depth (length (now out)) ⌝ }
     ensures { λ r. ⌜ r ≡ 1 + length (withSize (normal (itemsAt (now (table .entry)) from to))) ⌝ }
     ensures { λ r. ⌜ now (out .exit) ≡ over (headByte kind ∷ withSize (normal (itemsAt (now (table .entry)) from to))) (now (out .entry)) ⌝ }
 {
@@ -119,7 +125,7 @@ fn write_container(
 }
 
 pub fn write_run(table: &[u64], from: usize, to: usize, depth: usize, out: &mut [u8]) -> usize
-    requires { ⌜ Fits (now table) from to depth (length (now out)) ⌝ }
+    requires { ⌜ RunWritable (now table) from to depth (length (now out)) ⌝ }
     ensures { λ r. ⌜ r ≡ length (normal (itemsAt (now (table .entry)) from to)) ⌝ }
     ensures { λ r. ⌜ now (out .exit) ≡ over (normal (itemsAt (now (table .entry)) from to)) (now (out .entry)) ⌝ }
 {
@@ -127,13 +133,13 @@ pub fn write_run(table: &[u64], from: usize, to: usize, depth: usize, out: &mut 
     let mut n: usize = 0;
     while p < to {
         let kind = table[3 * p + 4];
-        if kind == 3 {
+        if kind == CHAR {
             let q = put_singles(table, p, to, CHARS, out, n);
             n += q - p;
             p = q;
             continue;
         }
-        if kind == 1 {
+        if kind == INT {
             if table[3 * p + 6] < 64 {
                 let q = put_singles(table, p, to, INTS, out, n);
                 n += q - p;
@@ -141,13 +147,13 @@ pub fn write_run(table: &[u64], from: usize, to: usize, depth: usize, out: &mut 
                 continue;
             }
         }
-        if kind < 7 {
+        if kind < STRUC {
             let bytes = put_leaf(table, p, &mut out[n..]);
             n += bytes;
             p += 1;
             continue;
         }
-        if kind == 9 {
+        if kind == STRING {
             let bytes = write_string(table, p, &mut out[n..]);
             n += bytes;
             p += 1;

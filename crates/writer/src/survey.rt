@@ -2,17 +2,22 @@
 // normal form is, and how many data words they take; or that they stand too deep.
 ghost use mathlib.Core.Path.{_≡_};
 ghost use Prim.Native.Nat.{_+_, _≤_, _<_};
-ghost use Rattle.writer.specs.Rows.{Room, rowsOf, wordsOf, Headed, kindAt};
-ghost use Rattle.writer.specs.Surveys.{nextRow, Small, SmallRows, LeavesSurveyed, RunSurveyed, BoxSurveyed};
-use crate::judge::Judged;
-use crate::judge::bits_row;
-use crate::judge::kind_ok;
-use crate::judge::plain_ok;
-use crate::judge::single;
-use crate::judge::string_row;
+ghost use Rattle.table.specs.Rows.{Room, rowsOf, wordsOf, Headed, kindAt};
+ghost use Rattle.writer.specs.Surveys.{Small, SmallRows, LeavesSurveyed, RunSurveyed, ContainerSurveyed};
 use crate::leaves::bits_length;
 use crate::numbers::int_length;
 use crate::numbers::size_length;
+use format::kinds::BITS;
+use format::kinds::CHAR;
+use format::kinds::INT;
+use format::kinds::STRING;
+use format::kinds::STRUC;
+use table::Judged;
+use table::judge::plain_ok;
+use table::rows::kind_ok;
+use table::rows::next_row;
+use table::words::bits_row;
+use table::words::string_row;
 
 // The bytes of the normal form, the number of items, and the data words up to the end; or rows that are not those of items; or
 // items in which more containers stand inside one another than were allowed.
@@ -71,30 +76,30 @@ fn small_until(table: &[u64], p: usize, to: usize, kind: u64, bound: u64) -> usi
 }
 
 // The INTs from the row `p` on that take one byte each, or the one that takes more.
-fn survey_ints(table: &[u64], p: usize, to: usize, past: usize) -> Leaves
+fn survey_ints(table: &[u64], p: usize, to: usize, base: usize) -> Leaves
     requires { ⌜ Headed (now table) × (kindAt (now table) p ≡ 1) ⌝ }
-    requires { ⌜ (p < to) × (to ≤ rowsOf (now table)) × (past ≤ wordsOf (now table)) ⌝ }
-    ensures { λ r. ⌜ LeavesSurveyed (now (table .entry)) (wordsOf (now (table .entry))) past p to r ⌝ }
+    requires { ⌜ (p < to) × (to ≤ rowsOf (now table)) × (base ≤ wordsOf (now table)) ⌝ }
+    ensures { λ r. ⌜ LeavesSurveyed (now (table .entry)) (wordsOf (now (table .entry))) base p to r ⌝ }
 {
     if table[3 * p + 5] != 0 {
         return Leaves::Wrong;
     }
     let value = table[3 * p + 6];
     if value < 64 {
-        let next = small_until(table, p, to, 1, 64);
-        return Leaves::Right(next - p, next, past);
+        let next = small_until(table, p, to, INT, 64);
+        return Leaves::Right(next - p, next, base);
     }
-    Leaves::Right(int_length(value), p + 1, past)
+    Leaves::Right(int_length(value), p + 1, base)
 }
 
 // The one row `p`, of any kind but that of an INT or a container.
-fn survey_leaf(table: &[u64], p: usize, to: usize, past: usize) -> Leaves
+fn survey_leaf(table: &[u64], p: usize, to: usize, base: usize) -> Leaves
     requires { ⌜ Headed (now table) × (kindAt (now table) p < 7) × (kindAt (now table) p ≡ 1 → ⊥) ⌝ }
-    requires { ⌜ (p < to) × (to ≤ rowsOf (now table)) × (past ≤ wordsOf (now table)) ⌝ }
-    ensures { λ r. ⌜ LeavesSurveyed (now (table .entry)) (wordsOf (now (table .entry))) past p to r ⌝ }
+    requires { ⌜ (p < to) × (to ≤ rowsOf (now table)) × (base ≤ wordsOf (now table)) ⌝ }
+    ensures { λ r. ⌜ LeavesSurveyed (now (table .entry)) (wordsOf (now (table .entry))) base p to r ⌝ }
 {
     let kind = table[3 * p + 4];
-    if kind == 2 {
+    if kind == BITS {
         let rows = table[0] as usize;
         let words = table[3] as usize;
         let row = bits_row(
@@ -103,81 +108,70 @@ fn survey_leaf(table: &[u64], p: usize, to: usize, past: usize) -> Leaves
             table[3 * p + 6] as usize,
             rows,
             words,
-            past,
+            base,
         );
         match row {
             Judged::Wrong => return Leaves::Wrong,
             Judged::Right(used) => {
-                return Leaves::Right(bits_length(table[3 * p + 5] as usize), p + 1, past + used);
+                return Leaves::Right(bits_length(table[3 * p + 5] as usize), p + 1, base + used);
             }
         }
     }
     if plain_ok(kind, table[3 * p + 5], table[3 * p + 6]) {
-        return Leaves::Right(1, p + 1, past);
+        return Leaves::Right(1, p + 1, base);
     }
     Leaves::Wrong
 }
 
 // Some of the items without elements from the row `p` on.
-fn survey_leaves(table: &[u64], p: usize, to: usize, past: usize) -> Leaves
+fn survey_leaves(table: &[u64], p: usize, to: usize, base: usize) -> Leaves
     requires { ⌜ Headed (now table) × (kindAt (now table) p < 7) ⌝ }
-    requires { ⌜ (p < to) × (to ≤ rowsOf (now table)) × (past ≤ wordsOf (now table)) ⌝ }
-    ensures { λ r. ⌜ LeavesSurveyed (now (table .entry)) (wordsOf (now (table .entry))) past p to r ⌝ }
+    requires { ⌜ (p < to) × (to ≤ rowsOf (now table)) × (base ≤ wordsOf (now table)) ⌝ }
+    ensures { λ r. ⌜ LeavesSurveyed (now (table .entry)) (wordsOf (now (table .entry))) base p to r ⌝ }
 {
     let kind = table[3 * p + 4];
-    if kind == 3 {
-        let next = small_until(table, p, to, 3, 128);
+    if kind == CHAR {
+        let next = small_until(table, p, to, CHAR, 128);
         if next == p {
             return Leaves::Wrong;
         }
-        return Leaves::Right(next - p, next, past);
+        return Leaves::Right(next - p, next, base);
     }
-    if kind == 1 {
-        return survey_ints(table, p, to, past);
+    if kind == INT {
+        return survey_ints(table, p, to, base);
     }
-    survey_leaf(table, p, to, past)
+    survey_leaf(table, p, to, base)
 }
 
 // The string whose row is `p`; `depth` containers are allowed, itself among them.
-fn survey_string(table: &[u64], p: usize, to: usize, past: usize, depth: usize) -> Surveyed
+fn survey_string(table: &[u64], p: usize, to: usize, base: usize, depth: usize) -> Surveyed
     requires { ⌜ Headed (now table) × (kindAt (now table) p ≡ 9) ⌝ }
-    requires { ⌜ (p < to) × (to ≤ rowsOf (now table)) × (past ≤ wordsOf (now table)) ⌝ }
-    ensures { λ r. ⌜ BoxSurveyed (now (table .entry)) (wordsOf (now (table .entry))) depth past p to r ⌝ }
+    requires { ⌜ (p < to) × (to ≤ rowsOf (now table)) × (base ≤ wordsOf (now table)) ⌝ }
+    ensures { λ r. ⌜ ContainerSurveyed (now (table .entry)) (wordsOf (now (table .entry))) depth base p to r ⌝ }
 {
     if depth == 0 {
         return Surveyed::Deep;
     }
     let rows = table[0] as usize;
     let words = table[3] as usize;
-    let row = string_row(table, p, rows, words, past);
+    let row = string_row(table, p, rows, words, base);
     match row {
         Judged::Wrong => Surveyed::Wrong,
         Judged::Right(used) => {
             let size = table[3 * p + 5] as usize;
-            Surveyed::Whole(1 + size_length(size) + size, 1, past + used)
+            Surveyed::Whole(1 + size_length(size) + size, 1, base + used)
         }
     }
 }
 
-// The row behind the container whose row is `p`.
-fn next_row(table: &[u64], p: usize) -> usize
-    requires { ⌜ Room (now table) (p + 1) (nextRow (now table) p) ⌝ }
-    ensures { λ r. ⌜ r ≡ nextRow (now (table .entry)) p ⌝ }
-{
-    if single(table[3 * p + 4]) {
-        return p + 1;
-    }
-    p + 1 + (table[3 * p + 6] as usize)
-}
-
 // The container whose row is `p`, with its elements; `depth` containers are allowed, itself among them.
-fn survey_container(table: &[u64], p: usize, to: usize, past: usize, depth: usize) -> Surveyed
+fn survey_container(table: &[u64], p: usize, to: usize, base: usize, depth: usize) -> Surveyed
     requires { ⌜ Headed (now table) × (7 ≤ kindAt (now table) p) ⌝ }
-    requires { ⌜ (p < to) × (to ≤ rowsOf (now table)) × (past ≤ wordsOf (now table)) ⌝ }
-    ensures { λ r. ⌜ BoxSurveyed (now (table .entry)) (wordsOf (now (table .entry))) depth past p to r ⌝ }
+    requires { ⌜ (p < to) × (to ≤ rowsOf (now table)) × (base ≤ wordsOf (now table)) ⌝ }
+    ensures { λ r. ⌜ ContainerSurveyed (now (table .entry)) (wordsOf (now (table .entry))) depth base p to r ⌝ }
 {
-    if table[3 * p + 4] == 9 {
-        return survey_string(table, p, to, past, depth);
+    if table[3 * p + 4] == STRING {
+        return survey_string(table, p, to, base, depth);
     }
     if depth == 0 {
         return Surveyed::Deep;
@@ -187,7 +181,7 @@ fn survey_container(table: &[u64], p: usize, to: usize, past: usize, depth: usiz
         return Surveyed::Wrong;
     }
     let next = p + 1 + beneath;
-    let inner = survey_run(table, p + 1, next, past, depth - 1);
+    let inner = survey_run(table, p + 1, next, base, depth - 1);
     match inner {
         Surveyed::Wrong => Surveyed::Wrong,
         Surveyed::Deep => Surveyed::Deep,
@@ -209,34 +203,34 @@ pub fn survey_run(table: &[u64], from: usize, to: usize, before: usize, depth: u
     ensures { λ r. ⌜ RunSurveyed (now (table .entry)) (wordsOf (now (table .entry))) depth before from to r ⌝ }
 {
     let mut p = from;
-    let mut past = before;
+    let mut base = before;
     let mut count: u64 = 0;
     let mut n: usize = 0;
     while p < to {
-        if table[3 * p + 4] < 7 {
-            let some = survey_leaves(table, p, to, past);
+        if table[3 * p + 4] < STRUC {
+            let some = survey_leaves(table, p, to, base);
             match some {
                 Leaves::Wrong => return Surveyed::Wrong,
                 Leaves::Right(bytes, next, after) => {
                     n += bytes;
                     count += (next - p) as u64;
-                    past = after;
+                    base = after;
                     p = next;
                     continue;
                 }
             }
         }
-        let one = survey_container(table, p, to, past, depth);
+        let one = survey_container(table, p, to, base, depth);
         match one {
             Surveyed::Wrong => return Surveyed::Wrong,
             Surveyed::Deep => return Surveyed::Deep,
             Surveyed::Whole(bytes, items, after) => {
                 n += bytes;
                 count += items;
-                past = after;
+                base = after;
                 p = next_row(table, p);
             }
         }
     }
-    Surveyed::Whole(n, count, past)
+    Surveyed::Whole(n, count, base)
 }

@@ -1,27 +1,22 @@
-use Rattle.fill.proofs.WholeLaws.{header-room, whole}
+-- The whole table: rows and data words, and the header before them. Assumes nothing.
+use Rattle.fill.proofs.WholeLaws.{Seen, seen, header-room, whole}
 use borrow.Author.Needs.{needs}
 use Rattle.fill.proofs.fill.Statement.{statement}
 use Rattle.fill.proofs.fill.Tie as tie
-use Rattle.fill.proofs.fill.Reads as reads
-use Rattle.fill.proofs.fill.Lts as lts
-use Rattle.fill.proofs.put_header.Reads as put-header-reads
-use Rattle.fill.proofs.put_items.Reads as put-items-reads
 
--- src/lib.rt:47:9
-put-items-requires : tie.Need-put-items-requires
-put-items-requires c κs = search needs
+seen-at : (c : tie.Start) → let a = c .args in Seen (a .message .now) (a .rows) (a .words) (a .table .now)
+seen-at c = seen _ _ _ _ (c .pre .1)
 
--- src/lib.rt:48:5
-put-header-requires : tie.Need-put-header-requires
-put-header-requires c κs = header-room (c .before .before .before .before .before .before .before .args .message .now) (c .before .before .before .before .before .before .before .args .rows) (c .before .before .before .before .before .before .before .args .words) (c .before .before .before .before .before .before .before .args .table .now) (c .before .before .before .before .before .before .before .pre .1) _ _ (c .before .before .before .put-items .ensures)
-
--- src/lib.rt:43:1
-same-length : tie.Need-same-length
-same-length c = search needs
-
--- src/lib.rt:43:1
 returns : tie.Need-returns
-returns c = whole (c .before .before .before .before .before .before .before .before .before .before .args .message .now) (c .before .before .before .before .before .before .before .before .before .before .args .rows) (c .before .before .before .before .before .before .before .before .before .before .args .words) (c .before .before .before .before .before .before .before .before .before .before .args .table .now) (c .before .before .before .before .before .before .before .before .before .before .pre .1) _ _ (c .before .before .before .before .before .before .put-items .ensures) _ (c .before .before .put-header .ensures)
+returns c =
+    let i = c .before .before .before .before .before .before in
+    whole (seen-at (i .before .before .before .before)) _ _ (i .put-items .ensures) (c .before .before .put-header .ensures)
 
 pub fill-spec : {M : Type 1} → statement M
-fill-spec = tie.close (tie.spec put-items-requires put-header-requires same-length returns)
+fill-spec =
+    tie.close
+    (tie.spec
+    (λ c κs. search needs)  -- put-items-requires
+    (λ c κs. header-room (seen-at (c .before .before .before .before .before .before .before)) _ _ (c .before .before .before .put-items .ensures))  -- put-header-requires
+    (λ c. search needs)  -- same-length
+    returns)

@@ -1,53 +1,23 @@
+-- Where there are rows, the walk lays them out behind the header. Assumes nothing.
 use native.Mathlib.Omega.{arith}
-use Rattle.fill.proofs.WholeLaws.{rows-few, no-items, items-fit, items-put}
+use Rattle.fill.proofs.WholeLaws.{Seen, seen, no-items, items-fit, items-put}
 use borrow.Author.Needs.{needs}
 use Rattle.fill.proofs.put_items.Statement.{statement}
 use Rattle.fill.proofs.put_items.Tie as tie
-use Rattle.fill.proofs.put_items.Reads as reads
-use Rattle.fill.proofs.put_items.Lts as lts
-use Rattle.fill.proofs.walk.fill_run.Reads as fill-run-reads
 
--- src/lib.rt:26:9
-returns : tie.Need-returns
-returns c = no-items (c .before .before .before .args .message .now) (c .before .before .before .args .rows) (c .before .before .before .args .words) (c .before .before .before .args .table .now) (c .before .before .before .pre .1) (c .if1 .taken)
-
--- src/lib.rt:28:37
-mul-fill-run : tie.Need-mul-fill-run
-mul-fill-run c = let f = items-fit (c .before .before .before .args .message .now) (c .before .before .before .args .rows) (c .before .before .before .args .words) (c .before .before .before .args .table .now) (c .before .before .before .pre .1) in let g = f .1 .fits in omega (arith, rows-few (c .before .before .before .args .message .now) (c .before .before .before .args .rows) (c .before .before .before .args .words) (c .before .before .before .args .table .now) (c .before .before .before .pre .1))
-
--- src/lib.rt:28:47
-sub-fill-run : tie.Need-sub-fill-run
-sub-fill-run c = items-fit (c .before .before .before .args .message .now) (c .before .before .before .args .rows) (c .before .before .before .args .words) (c .before .before .before .args .table .now) (c .before .before .before .pre .1) .0
-
--- src/lib.rt:28:47
-part-fill-run-start : tie.Need-part-fill-run-start
-part-fill-run-start c = items-fit (c .before .before .before .args .message .now) (c .before .before .before .args .rows) (c .before .before .before .args .words) (c .before .before .before .args .table .now) (c .before .before .before .pre .1) .0
-
--- src/lib.rt:28:47
-part-fill-run-end : tie.Need-part-fill-run-end
-part-fill-run-end c = search needs
-
--- src/lib.rt:28:9
-fill-run-requires : tie.Need-fill-run-requires
-fill-run-requires c κs = (omega (arith, c .before .before .before .before .pre .0), items-fit (c .before .before .before .before .args .message .now) (c .before .before .before .before .args .rows) (c .before .before .before .before .args .words) (c .before .before .before .before .args .table .now) (c .before .before .before .before .pre .1) .1)
-
--- src/lib.rt:21:1
-same-length : tie.Need-same-length
-same-length c = search needs
-
--- src/lib.rt:21:1
-returns-2 : tie.Need-returns-2
-returns-2 c = items-put (c .before .before .before .before .before .before .before .args .message .now) (c .before .before .before .before .before .before .before .args .rows) (c .before .before .before .before .before .before .before .args .words) (c .before .before .before .before .before .before .before .args .table .now) (c .before .before .before .before .before .before .before .pre .1) _ _ (c .before .before .fill-run .ensures)
+-- the items that the message says, and the room for them
+seen-at : (c : tie.Start) → let a = c .args in Seen (a .message .now) (a .rows) (a .words) (a .table .now)
+seen-at c = seen _ _ _ _ (c .pre .1)
 
 pub put-items-spec : {M : Type 1} → statement M
 put-items-spec =
     tie.close
     (tie.spec
-    returns
-    mul-fill-run
-    sub-fill-run
-    part-fill-run-start
-    part-fill-run-end
-    fill-run-requires
-    same-length
-    returns-2)
+    (λ c. no-items (seen-at (c .before .before .before)) (c .if1 .taken))  -- returns
+    (λ c. let s = seen-at (c .before .before .before) in omega (arith, s .rows-are, s .few-rows))  -- mul-fill-run
+    (λ c. items-fit (seen-at (c .before .before .before)) .0)  -- sub-fill-run
+    (λ c. items-fit (seen-at (c .before .before .before)) .0)  -- part-fill-run-start
+    (λ c. search needs)  -- part-fill-run-end
+    (λ c κs. (omega (arith, c .before .before .before .before .pre .0), items-fit (seen-at (c .before .before .before .before)) .1))  -- fill-run-requires
+    (λ c. search needs)  -- same-length
+    (λ c. items-put (seen-at (c .before .before .before .before .before .before .before)) (c .before .before .fill-run .ensures)))  -- returns-2

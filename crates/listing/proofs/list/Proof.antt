@@ -7,35 +7,21 @@ use Rattle.listing.proofs.ReadTexts.{long-text, long-table, shown, read
 use Rattle.listing.proofs.list.Statement.{statement}
 use Rattle.listing.proofs.list.Tie as tie
 
-refused-requires : tie.Need-refused-requires
-refused-requires c κs = search needs
-
-same-length : tie.Need-same-length
-same-length c = search needs
-
 returns : tie.Need-returns
 returns c =
     let a = c .before .before .before .before .before .before .before .before .args in
     let h = c .before .before .before .before .if1 .taken in
     shown (a .out .now) (long-text (a .message .now) h) (c .before .before .refused .ensures) (long-table (a .message .now) (a .table .now) h)
 
-read-requires : tie.Need-read-requires
-read-requires c κs = search needs
-
 accepted-requires : tie.Need-accepted-requires
 accepted-requires c κs =
+    let b8 = c .before .before .before .before .before .before .before .before in
     let s = c .before .before .before .before .before .before .before .before .before .before .before .before in
     let m = s .args .message .now in
     let r = c .before .before .before .before .before .before .read in
     let b = bytes-of m (λ i. omega (arith, c .before .before .before .before .before .before .before .before .before .before .before .shared-slice-known .given i)) in
-    let k = accepts m (s .args .table .now) (c .before .before .before .before .before .before .before .before .if1 .left) (s .pre .0) (readTold (r .result) (r .last .1 .0)) (r .ensures) b (c .before .before .if2 .taken) in
+    let k = accepts m (s .args .table .now) (b8 .if1 .left) (s .pre .0) (readTold (r .result) (r .last .1 .0)) (r .ensures) b (c .before .before .if2 .taken) in
     (k .can, omega (arith, s .pre .1))
-
-same-length-2 : tie.Need-same-length-2
-same-length-2 c = search needs
-
-same-length-3 : tie.Need-same-length-3
-same-length-3 c = search needs
 
 returns-2 : tie.Need-returns-2
 returns-2 c =
@@ -47,15 +33,6 @@ returns-2 c =
     let b = bytes-of m (λ i. omega (arith, c .before .before .before .before .before .before .before .before .before .before .before .before .before .before .shared-slice-known .given i)) in
     let k = accepts m t h (s .pre .0) (readTold (r .result) (r .last .1 .0)) (r .ensures) b (c .before .before .before .before .before .if2 .taken) in
     shown (s .args .out .now) (k .text) (c .before .before .accepted .ensures) (read-table m t h (s .pre .0) (readTold (r .result) (r .last .1 .0)) (r .ensures))
-
-refused-requires-2 : tie.Need-refused-requires-2
-refused-requires-2 c κs = search needs
-
-same-length-4 : tie.Need-same-length-4
-same-length-4 c = search needs
-
-same-length-5 : tie.Need-same-length-5
-same-length-5 c = search needs
 
 returns-3 : tie.Need-returns-3
 returns-3 c =
@@ -71,15 +48,15 @@ pub list-spec : {M : Type 1} → statement M
 list-spec =
     tie.close
     (tie.spec
-    refused-requires
-    same-length
+    (λ c κs. search needs)  -- refused-requires
+    (λ c. search needs)  -- same-length
     returns
-    read-requires
+    (λ c κs. search needs)  -- read-requires
     accepted-requires
-    same-length-2
-    same-length-3
+    (λ c. search needs)  -- same-length-2
+    (λ c. search needs)  -- same-length-3
     returns-2
-    refused-requires-2
-    same-length-4
-    same-length-5
+    (λ c κs. search needs)  -- refused-requires-2
+    (λ c. search needs)  -- same-length-4
+    (λ c. search needs)  -- same-length-5
     returns-3)

@@ -9,17 +9,8 @@ use Rattle.listing.proofs.Decimals.{count-most}
 use Rattle.listing.proofs.refused.Statement.{statement}
 use Rattle.listing.proofs.refused.Tie as tie
 
-slice-aggregate-put-text : tie.Need-slice-aggregate-put-text
-slice-aggregate-put-text c = search needs
-
-put-text-requires : tie.Need-put-text-requires
-put-text-requires c κs = search needs
-
 put-decimal-requires : tie.Need-put-decimal-requires
 put-decimal-requires c κs = omega (arith, count-most 19 (c .before .before .before .before .before .before .before .args .number) (omega arith))
-
-slice-aggregate-put-text-2 : tie.Need-slice-aggregate-put-text-2
-slice-aggregate-put-text-2 c = search needs
 
 put-text-requires-2 : tie.Need-put-text-requires-2
 put-text-requires-2 c κs = omega (arith, count-most 19 (c .before .before .before .before .before .before .before .before .before .before .before .before .args .number) (omega arith))
@@ -34,32 +25,27 @@ slice-write-out c =
     let a = c .before .before .before .before .before .before .before .before .before .before .before .before .before .before .before .before .before .before .before .args in
     omega (arith, count-most 19 (a .number) (omega arith), count-most 19 (a .place) (omega arith))
 
-add-result : tie.Need-add-result
-add-result c = search needs
-
-same-length : tie.Need-same-length
-same-length c = simp length-set (omega arith)
-
 returns : tie.Need-returns
 unfolding refusedText
 returns c =
+    let b6 = c .before .before .before .before .before .before in let b11 = b6 .before .before .before .before .before in let b15 = b11 .before .before .before .before in
     let a = c .before .before .before .before .before .before .before .before .before .before .before .before .before .before .before .before .before .before .before .args in
     let d = c .before .before .put-decimal2 in
     let n = count-most 19 (a .number) (omega arith) in
     let p = count-most 19 (a .place) (omega arith) in
-    over-front (then (c .before .before .before .before .before .before .before .before .before .before .before .before .before .before .before .put-text .ensures) (then (c .before .before .before .before .before .before .before .before .before .before .before .put-decimal .ensures) (then (c .before .before .before .before .before .before .put-text2 .ensures) (then (d .ensures) (byte (d .result) 0x0a (d .last .0) (omega arith))))))
+    over-front (then (b15 .put-text .ensures) (then (b11 .put-decimal .ensures) (then (b6 .put-text2 .ensures) (then (d .ensures) (byte (d .result) 0x0a (d .last .0) (omega arith))))))
 
 pub refused-spec : {M : Type 1} → statement M
 refused-spec =
     tie.close
     (tie.spec
-    slice-aggregate-put-text
-    put-text-requires
+    (λ c. search needs)  -- slice-aggregate-put-text
+    (λ c κs. search needs)  -- put-text-requires
     put-decimal-requires
-    slice-aggregate-put-text-2
+    (λ c. search needs)  -- slice-aggregate-put-text-2
     put-text-requires-2
     put-decimal-requires-2
     slice-write-out
-    add-result
-    same-length
+    (λ c. search needs)  -- add-result
+    (λ c. simp length-set (omega arith))  -- same-length
     returns)

@@ -4,12 +4,9 @@ use Rattle.format.specs.Messages.{outcome}
 use Rattle.scan.proofs.scan_message.Statement.{statement}
 use Rattle.scan.proofs.scan_message.Tie as tie
 
-scan-run-requires : tie.Need-scan-run-requires
-scan-run-requires c κs = search needs
-
 returns : tie.Need-returns
 unfolding outcome
 returns c = c .scan-run .ensures
 
 pub scan-message-spec : {M : Type 1} → statement M
-scan-message-spec = tie.close (tie.spec scan-run-requires returns)
+scan-message-spec = tie.close (tie.spec (λ c κs. search needs) returns)

@@ -21,49 +21,28 @@ text-within : (l t u : List ℕ) (r : ℕ) → r ≡ length l → u ≡ over l t
 unfolding over
 text-within l t u r e o = omega (arith, e, ap length o, length-append l (drop (length l) t))
 
-slice-aggregate-list : tie.Need-slice-aggregate-list
-slice-aggregate-list c = search needs
-
-slice-aggregate-list-2 : tie.Need-slice-aggregate-list-2
-slice-aggregate-list-2 c = search needs
-
 list-requires : tie.Need-list-requires
 list-requires c κs = (length-replicate {A = ℕ} 8000 0, zeros-long 524288)
 
 array-share-prefix-text : tie.Need-array-share-prefix-text
-array-share-prefix-text c = text-within (listing _) _ (c .before .before .list .last .1 .1 .0) (c .before .before .list .result) (c .before .before .list .ensures .0) (c .before .before .list .ensures .1 .0)
+array-share-prefix-text c = let l = c .before .before .list in text-within (listing _) _ (l .last .1 .1 .0) (l .result) (l .ensures .0) (l .ensures .1 .0)
 
 slice-aggregate-write-all : tie.Need-slice-aggregate-write-all
 slice-aggregate-write-all c =
-    sym (length-take-le (c .before .before .before .list .result) (c .before .before .before .list .last .1 .1 .0)
-    (text-within (listing _) _ (c .before .before .before .list .last .1 .1 .0) (c .before .before .before .list .result) (c .before .before .before .list .ensures .0) (c .before .before .before .list .ensures .1 .0)))
-
-write-all-requires : tie.Need-write-all-requires
-write-all-requires c κs = search needs
-
-slice-aggregate-write-all-2 : tie.Need-slice-aggregate-write-all-2
-slice-aggregate-write-all-2 c = search needs
-
-write-all-requires-2 : tie.Need-write-all-requires-2
-write-all-requires-2 c κs = search needs
-
-returns : tie.Need-returns
-returns c = search needs
-
-returns-2 : tie.Need-returns-2
-returns-2 c = search needs
+    let l = c .before .before .before .list in
+    sym (length-take-le (l .result) (l .last .1 .1 .0) (text-within (listing _) _ (l .last .1 .1 .0) (l .result) (l .ensures .0) (l .ensures .1 .0)))
 
 pub list-sheet-spec : {M : Type 1} → statement M
 list-sheet-spec =
     tie.close
     (tie.spec
-    slice-aggregate-list
-    slice-aggregate-list-2
+    (λ c. search needs)  -- slice-aggregate-list
+    (λ c. search needs)  -- slice-aggregate-list-2
     list-requires
     array-share-prefix-text
     slice-aggregate-write-all
-    write-all-requires
-    slice-aggregate-write-all-2
-    write-all-requires-2
-    returns
-    returns-2)
+    (λ c κs. search needs)  -- write-all-requires
+    (λ c. search needs)  -- slice-aggregate-write-all-2
+    (λ c κs. search needs)  -- write-all-requires-2
+    (λ c. search needs)  -- returns
+    (λ c. search needs))  -- returns-2

@@ -5,11 +5,8 @@ use Rattle.fill.proofs.LowBytes.{low-word}
 use Rattle.fill.proofs.codes.low_eight.Statement.{statement}
 use Rattle.fill.proofs.codes.low_eight.Tie as tie
 
-word-at-requires : tie.Need-word-at-requires
-word-at-requires c κs = search needs
-
 returns : tie.Need-returns
 returns c = low-word _ _ _ (λ j. omega (arith, c .before .shared-slice-known .given j)) (c .before .before .pre) (c .word-at .ensures)
 
 pub low-eight-spec : {M : Type 1} → statement M
-low-eight-spec = tie.close (tie.spec word-at-requires returns)
+low-eight-spec = tie.close (tie.spec (λ c κs. search needs) returns)

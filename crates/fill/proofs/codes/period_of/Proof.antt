@@ -6,9 +6,6 @@ use borrow.Author.Needs.{needs}
 use Rattle.fill.proofs.codes.period_of.Statement.{statement}
 use Rattle.fill.proofs.codes.period_of.Tie as tie
 
-mul-result : tie.Need-mul-result
-mul-result c = search needs
-
 returns : tie.Need-returns
 returns c = ((λ h. omega arith), (1, sym (one-mul _)))
 
@@ -16,4 +13,4 @@ returns-2 : tie.Need-returns-2
 returns-2 c = ((λ h. omega arith), (8, refl))
 
 pub period-of-spec : {M : Type 1} → statement M
-period-of-spec = tie.close (tie.spec mul-result returns returns-2)
+period-of-spec = tie.close (tie.spec (λ c. search needs) returns returns-2)

@@ -7,72 +7,15 @@ use borrow.Author.Needs.{needs}
 use Rattle.fill.proofs.codes.put_some.Statement.{statement}
 use Rattle.fill.proofs.codes.put_some.Tie as tie
 
-mul-r : tie.Need-mul-r
-mul-r c = search needs
-
-mul-table : tie.Need-mul-table
-mul-table c = search needs
-
-slice-write-table : tie.Need-slice-write-table
-slice-write-table c = search needs
-
-same-length : tie.Need-same-length
-same-length c = search needs
-
 returns : tie.Need-returns
 returns c =
     let p = c .before .before .pre in
     put-new _ _ _ _ (p .0) (p .1) (p .2) (c .if1 .taken)
 
-mul-wrapping-add-u64 : tie.Need-mul-wrapping-add-u64
-mul-wrapping-add-u64 c = search needs
-
-slice-read-wrapping-add-u64 : tie.Need-slice-read-wrapping-add-u64
-slice-read-wrapping-add-u64 c = search needs
-
-shr-wrapping-add-u64 : tie.Need-shr-wrapping-add-u64
-shr-wrapping-add-u64 c = search needs
-
-wrapping-add-u64-requires : tie.Need-wrapping-add-u64-requires
-wrapping-add-u64-requires c κs = search needs
-
-mul-table-2 : tie.Need-mul-table-2
-mul-table-2 c = search needs
-
-slice-write-table-2 : tie.Need-slice-write-table-2
-slice-write-table-2 c = search needs
-
-mul-if2 : tie.Need-mul-if2
-mul-if2 c = search needs
-
-add-if2 : tie.Need-add-if2
-add-if2 c = search needs
-
-sub-table : tie.Need-sub-table
-sub-table c = search needs
-
-shl-table : tie.Need-shl-table
-shl-table c = search needs
-
-add-table : tie.Need-add-table
-add-table c = search needs
-
-mul-table-3 : tie.Need-mul-table-3
-mul-table-3 c = search needs
-
-slice-write-table-3 : tie.Need-slice-write-table-3
-slice-write-table-3 c = simp length-set (omega arith)
-
-same-length-2 : tie.Need-same-length-2
-same-length-2 c = search needs
-
 returns-2 : tie.Need-returns-2
 returns-2 c =
     let p = c .before .before .before .before .before .pre in
     put-two _ _ _ _ (p .0) (p .1) (p .2) (omega arith) _ _ (c .before .wrapping-add-u64 .ensures) refl
-
-same-length-3 : tie.Need-same-length-3
-same-length-3 c = search needs
 
 returns-3 : tie.Need-returns-3
 returns-3 c =
@@ -83,25 +26,25 @@ pub put-some-spec : {M : Type 1} → statement M
 put-some-spec =
     tie.close
     (tie.spec
-    mul-r
-    mul-table
-    slice-write-table
-    same-length
+    (λ c. search needs)  -- mul-r
+    (λ c. search needs)  -- mul-table
+    (λ c. search needs)  -- slice-write-table
+    (λ c. search needs)  -- same-length
     returns
-    mul-wrapping-add-u64
-    slice-read-wrapping-add-u64
-    shr-wrapping-add-u64
-    wrapping-add-u64-requires
-    mul-table-2
-    slice-write-table-2
-    mul-if2
-    add-if2
-    sub-table
-    shl-table
-    add-table
-    mul-table-3
-    slice-write-table-3
-    same-length-2
+    (λ c. search needs)  -- mul-wrapping-add-u64
+    (λ c. search needs)  -- slice-read-wrapping-add-u64
+    (λ c. search needs)  -- shr-wrapping-add-u64
+    (λ c κs. search needs)  -- wrapping-add-u64-requires
+    (λ c. search needs)  -- mul-table-2
+    (λ c. search needs)  -- slice-write-table-2
+    (λ c. search needs)  -- mul-if2
+    (λ c. search needs)  -- add-if2
+    (λ c. search needs)  -- sub-table
+    (λ c. search needs)  -- shl-table
+    (λ c. search needs)  -- add-table
+    (λ c. search needs)  -- mul-table-3
+    (λ c. simp length-set (omega arith))  -- slice-write-table-3
+    (λ c. search needs)  -- same-length-2
     returns-2
-    same-length-3
+    (λ c. search needs)  -- same-length-3
     returns-3)

@@ -6,9 +6,6 @@ use Rattle.fill.proofs.ContainerLaws.{is-group}
 use Rattle.fill.proofs.copies.copies_of.Statement.{statement}
 use Rattle.fill.proofs.copies.copies_of.Tie as tie
 
-enum-known-w : tie.Need-enum-known-w
-enum-known-w c = search needs
-
 returns : tie.Need-returns
 unfolding copiesOf
 returns c = sym (ap copiesOf (c .before .w .given .1))
@@ -17,4 +14,4 @@ returns-2 : tie.Need-returns-2
 returns-2 c = sym (is-group (c .before .args .w) (c .match .keys2) .0)
 
 pub copies-of-spec : {M : Type 1} → statement M
-copies-of-spec = tie.close (tie.spec enum-known-w returns returns-2)
+copies-of-spec = tie.close (tie.spec (λ c. search needs) returns returns-2)

@@ -14,59 +14,14 @@ Inv-loop table₀ k kind a b j₀ table j = Filling k kind a b table₀ table j
 abbrev μ-loop : tie.MeasureT-loop
 μ-loop table₀ k kind a b j₀ table j = k - j
 
-slice-read-kind : tie.Need-slice-read-kind Inv-loop μ-loop
-slice-read-kind c = search needs
-
-slice-read-a : tie.Need-slice-read-a Inv-loop μ-loop
-slice-read-a c = search needs
-
-slice-read-b : tie.Need-slice-read-b Inv-loop μ-loop
-slice-read-b c = search needs
-
 loop-holds : tie.Need-loop-holds Inv-loop μ-loop
-loop-holds c = filling-start (c .before .before .before .args .k) (c .before .before .before .args .table .now) (c .before .before .before .pre .0) (omega (arith, c .slice-known3 .given 2))
-
-mul-to : tie.Need-mul-to Inv-loop μ-loop
-mul-to c = search needs
-
-mul-table : tie.Need-mul-table Inv-loop μ-loop
-mul-table c = search needs
-
-slice-write-table : tie.Need-slice-write-table Inv-loop μ-loop
-slice-write-table c = search needs
-
-add-table : tie.Need-add-table Inv-loop μ-loop
-add-table c = search needs
-
-mul-table-2 : tie.Need-mul-table-2 Inv-loop μ-loop
-mul-table-2 c = search needs
-
-slice-write-table-2 : tie.Need-slice-write-table-2 Inv-loop μ-loop
-slice-write-table-2 c = simp length-set (omega arith)
-
-add-table-2 : tie.Need-add-table-2 Inv-loop μ-loop
-add-table-2 c = search needs
-
-mul-table-3 : tie.Need-mul-table-3 Inv-loop μ-loop
-mul-table-3 c = search needs
-
-slice-write-table-3 : tie.Need-slice-write-table-3 Inv-loop μ-loop
-slice-write-table-3 c = simp length-set (omega arith)
-
-add-j : tie.Need-add-j Inv-loop μ-loop
-add-j c = search needs
-
-loop-less : tie.Need-loop-less Inv-loop μ-loop
-loop-less c = search needs
+loop-holds c = let a = c .before .before .before in filling-start (a .args .k) (a .args .table .now) (a .pre .0) (omega (arith, c .slice-known3 .given 2))
 
 loop-again : tie.Need-loop-again Inv-loop μ-loop
-loop-again c = filling-step (c .before .before .before .before .before .args .k) _ _ _ (c .before .before .before .before .before .args .table .now) (c .before .loop .table) (c .before .loop .j) (c .before .before .before .before .before .pre .1) (omega arith) (c .before .loop .inv)
-
-same-length : tie.Need-same-length Inv-loop μ-loop
-same-length c = search needs
-
-returns : tie.Need-returns Inv-loop μ-loop
-returns c = doubled-end _ _ _ _ _ _ (omega arith) (c .before .loop .inv .copied)
+loop-again c =
+    let a = c .before .before .before .before .before in
+    let l = c .before .loop in
+    filling-step (a .args .k) _ _ _ (a .args .table .now) (l .table) (l .j) (a .pre .1) (omega arith) (l .inv)
 
 pub copy-row-spec : {M : Type 1} → statement M
 copy-row-spec =
@@ -74,21 +29,21 @@ copy-row-spec =
     (tie.spec
     Inv-loop
     μ-loop
-    slice-read-kind
-    slice-read-a
-    slice-read-b
+    (λ c. search needs)  -- slice-read-kind
+    (λ c. search needs)  -- slice-read-a
+    (λ c. search needs)  -- slice-read-b
     loop-holds
-    mul-to
-    mul-table
-    slice-write-table
-    add-table
-    mul-table-2
-    slice-write-table-2
-    add-table-2
-    mul-table-3
-    slice-write-table-3
-    add-j
-    loop-less
+    (λ c. search needs)  -- mul-to
+    (λ c. search needs)  -- mul-table
+    (λ c. search needs)  -- slice-write-table
+    (λ c. search needs)  -- add-table
+    (λ c. search needs)  -- mul-table-2
+    (λ c. simp length-set (omega arith))  -- slice-write-table-2
+    (λ c. search needs)  -- add-table-2
+    (λ c. search needs)  -- mul-table-3
+    (λ c. simp length-set (omega arith))  -- slice-write-table-3
+    (λ c. search needs)  -- add-j
+    (λ c. search needs)  -- loop-less
     loop-again
-    same-length
-    returns)
+    (λ c. search needs)  -- same-length
+    (λ c. doubled-end _ _ _ _ _ _ (omega arith) (c .before .loop .inv .copied)))  -- returns

@@ -1,93 +1,24 @@
--- The loop's invariant: the rows so far stand again, moved. Assumes nothing.
+-- The loop's invariant: the rows so far stand again, rebased. Assumes nothing.
 use Prim.Native.Nat.{_-_}
 use mathlib.Core.Path.{refl}
 use lib.ListN.{length-set}
-use Rattle.fill.proofs.Doubling.{Moving, moving-start, moving-step, moving-end}
+use Rattle.fill.proofs.Doubling.{Rebasing, rebasing-start, rebasing-step, rebasing-end}
 use borrow.Author.Needs.{needs}
 use native.Mathlib.Omega.{arith}
 use Rattle.fill.proofs.copies.copy_some.Statement.{statement}
 use Rattle.fill.proofs.copies.copy_some.Tie as tie
 
 abbrev Inv-loop : tie.InvT-loop
-Inv-loop table₀ to n words i₀ table i = Moving words to n table₀ table i
+Inv-loop table₀ to n words i₀ table i = Rebasing words to n table₀ table i
 
 abbrev μ-loop : tie.MeasureT-loop
 μ-loop table₀ to n words i₀ table i = n - i
 
-loop-holds : tie.Need-loop-holds Inv-loop μ-loop
-loop-holds c = moving-start _ _ _ _
-
-mul-kind : tie.Need-mul-kind Inv-loop μ-loop
-mul-kind c = search needs
-
-slice-read-kind : tie.Need-slice-read-kind Inv-loop μ-loop
-slice-read-kind c = search needs
-
-add-a : tie.Need-add-a Inv-loop μ-loop
-add-a c = search needs
-
-mul-a : tie.Need-mul-a Inv-loop μ-loop
-mul-a c = search needs
-
-slice-read-a : tie.Need-slice-read-a Inv-loop μ-loop
-slice-read-a c = search needs
-
-add-b : tie.Need-add-b Inv-loop μ-loop
-add-b c = search needs
-
-mul-b : tie.Need-mul-b Inv-loop μ-loop
-mul-b c = search needs
-
-slice-read-b : tie.Need-slice-read-b Inv-loop μ-loop
-slice-read-b c = search needs
-
-add-at : tie.Need-add-at Inv-loop μ-loop
-add-at c = search needs
-
-mul-table : tie.Need-mul-table Inv-loop μ-loop
-mul-table c = search needs
-
-slice-write-table : tie.Need-slice-write-table Inv-loop μ-loop
-slice-write-table c = search needs
-
-add-table : tie.Need-add-table Inv-loop μ-loop
-add-table c = search needs
-
-mul-table-2 : tie.Need-mul-table-2 Inv-loop μ-loop
-mul-table-2 c = search needs
-
-slice-write-table-2 : tie.Need-slice-write-table-2 Inv-loop μ-loop
-slice-write-table-2 c = simp length-set (omega arith)
-
-shifted-requires : tie.Need-shifted-requires Inv-loop μ-loop
-shifted-requires c κs = search needs
-
-add-table-2 : tie.Need-add-table-2 Inv-loop μ-loop
-add-table-2 c = search needs
-
-mul-table-3 : tie.Need-mul-table-3 Inv-loop μ-loop
-mul-table-3 c = search needs
-
-slice-write-table-3 : tie.Need-slice-write-table-3 Inv-loop μ-loop
-slice-write-table-3 c = simp length-set (omega arith)
-
-add-i : tie.Need-add-i Inv-loop μ-loop
-add-i c = search needs
-
-loop-less : tie.Need-loop-less Inv-loop μ-loop
-loop-less c = search needs
-
 loop-again : tie.Need-loop-again Inv-loop μ-loop
 loop-again c =
-    let a = c .before .before .before .before .before .before .before .args in
+    let l = c .before .before .before .before .before .loop in
     let p = c .before .before .before .before .before .before .before .pre in
-    moving-step (a .words) (a .to) (a .n) (a .table .now) (c .before .before .before .before .before .loop .table) (c .before .before .before .before .before .loop .i) _ _ _ (p .0) (p .1) (p .2) (omega arith) (c .before .before .before .before .before .loop .inv) refl refl (c .shifted .ensures)
-
-same-length : tie.Need-same-length Inv-loop μ-loop
-same-length c = search needs
-
-returns : tie.Need-returns Inv-loop μ-loop
-returns c = moving-end _ _ _ _ _ _ (omega arith) (c .before .loop .inv)
+    rebasing-step _ _ _ _ (l .table) (l .i) _ _ _ (p .0) (p .1) (p .2) (omega arith) (l .inv) refl refl (c .shifted .ensures)
 
 pub copy-some-spec : {M : Type 1} → statement M
 copy-some-spec =
@@ -95,27 +26,27 @@ copy-some-spec =
     (tie.spec
     Inv-loop
     μ-loop
-    loop-holds
-    mul-kind
-    slice-read-kind
-    add-a
-    mul-a
-    slice-read-a
-    add-b
-    mul-b
-    slice-read-b
-    add-at
-    mul-table
-    slice-write-table
-    add-table
-    mul-table-2
-    slice-write-table-2
-    shifted-requires
-    add-table-2
-    mul-table-3
-    slice-write-table-3
-    add-i
-    loop-less
+    (λ c. rebasing-start _ _ _ _)  -- loop-holds
+    (λ c. search needs)  -- mul-kind
+    (λ c. search needs)  -- slice-read-kind
+    (λ c. search needs)  -- add-a
+    (λ c. search needs)  -- mul-a
+    (λ c. search needs)  -- slice-read-a
+    (λ c. search needs)  -- add-b
+    (λ c. search needs)  -- mul-b
+    (λ c. search needs)  -- slice-read-b
+    (λ c. search needs)  -- add-at
+    (λ c. search needs)  -- mul-table
+    (λ c. search needs)  -- slice-write-table
+    (λ c. search needs)  -- add-table
+    (λ c. search needs)  -- mul-table-2
+    (λ c. simp length-set (omega arith))  -- slice-write-table-2
+    (λ c κs. search needs)  -- shifted-requires
+    (λ c. search needs)  -- add-table-2
+    (λ c. search needs)  -- mul-table-3
+    (λ c. simp length-set (omega arith))  -- slice-write-table-3
+    (λ c. search needs)  -- add-i
+    (λ c. search needs)  -- loop-less
     loop-again
-    same-length
-    returns)
+    (λ c. search needs)  -- same-length
+    (λ c. rebasing-end _ _ _ _ _ _ (omega arith) (c .before .loop .inv)))  -- returns

@@ -13,65 +13,23 @@ Inv-loop s i table₀ used upto₀ rows₀ table upto rows = Stretched s i used 
 abbrev μ-loop : tie.MeasureT-loop
 μ-loop s i table₀ used upto₀ rows₀ table upto rows = length s - upto
 
-loop-holds : tie.Need-loop-holds Inv-loop μ-loop
-loop-holds c = stretched-none _ _ _ _ (c .before .before .pre .0) (c .before .before .pre .1)
-
-mul-at : tie.Need-mul-at Inv-loop μ-loop
-mul-at c = search needs
-
-add-at : tie.Need-add-at Inv-loop μ-loop
-add-at c = search needs
-
-sub-if1 : tie.Need-sub-if1 Inv-loop μ-loop
-sub-if1 c = search needs
-
-same-length : tie.Need-same-length Inv-loop μ-loop
-same-length c = search needs
-
-returns : tie.Need-returns Inv-loop μ-loop
-returns c = c .before .before .loop .inv
-
-put-class-requires : tie.Need-put-class-requires Inv-loop μ-loop
-put-class-requires c κs = search needs
-
-add-rows : tie.Need-add-rows Inv-loop μ-loop
-add-rows c = search needs
-
-same-length-2 : tie.Need-same-length-2 Inv-loop μ-loop
-same-length-2 c = search needs
-
-returns-2 : tie.Need-returns-2 Inv-loop μ-loop
-returns-2 c = stretched-stop _ _ _ _ _ _ _ _ _ _ (c .before .before .before .before .before .before .before .before .before .loop .inv) (c .before .before .before .before .before .put-class .ensures) (c .if2 .taken)
-
-loop-less : tie.Need-loop-less Inv-loop μ-loop
-loop-less c = search needs
-
-loop-again : tie.Need-loop-again Inv-loop μ-loop
-loop-again c = stretched-join _ _ _ _ _ _ _ _ _ _ (c .before .before .before .before .before .before .before .before .before .loop .inv) (c .before .before .before .before .before .put-class .ensures)
-
-same-length-3 : tie.Need-same-length-3 Inv-loop μ-loop
-same-length-3 c = search needs
-
-returns-3 : tie.Need-returns-3 Inv-loop μ-loop
-returns-3 c = c .before .loop .inv
-
 pub put-stretch-spec : {M : Type 1} → statement M
 put-stretch-spec =
     tie.close
     (tie.spec
     Inv-loop
     μ-loop
-    loop-holds
-    mul-at
-    add-at
-    sub-if1
-    same-length
-    returns
-    put-class-requires
-    add-rows
-    same-length-2
-    returns-2
-    loop-less
-    loop-again
-    same-length-3
-    returns-3)
+    (λ c. let p = c .before .before .pre in stretched-none _ _ _ _ (p .0) (p .1))  -- loop-holds
+    (λ c. search needs)  -- mul-at
+    (λ c. search needs)  -- add-at
+    (λ c. search needs)  -- sub-if1
+    (λ c. search needs)  -- same-length
+    (λ c. c .before .before .loop .inv)  -- returns
+    (λ c κs. search needs)  -- put-class-requires
+    (λ c. search needs)  -- add-rows
+    (λ c. search needs)  -- same-length-2
+    (λ c. let p = c .before .before .before .before .before in stretched-stop (p .before .before .before .before .loop .inv) (p .put-class .ensures) (c .if2 .taken))  -- returns-2
+    (λ c. search needs)  -- loop-less
+    (λ c. let p = c .before .before .before .before .before in stretched-join (p .before .before .before .before .loop .inv) (p .put-class .ensures))  -- loop-again
+    (λ c. search needs)  -- same-length-3
+    (λ c. c .before .loop .inv))  -- returns-3

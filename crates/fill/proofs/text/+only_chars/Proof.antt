@@ -1,14 +1,14 @@
-use native.Mathlib.Omega.{arith}
-use Prim.Native.Nat.{_-_, _+_}
-use borrow.Author.Needs.{needs}
-use mathlib.Core.Path.{refl}
-use lib.ListN.{length, getD, length-take, length-drop}
-use Rattle.fill.proofs.Over.{part-length}
-use Rattle.fill.proofs.StringLaws.{char-is, char-not, byte-is, byte-not, yes-not, no-not, Chars, chars-start, chars-end, chars-not, chars-bytes, chars-gaps, no-chars, repeat-none, gone-turn, more-turn, stop-turn}
 -- The walk that tells whether a run says only CHARs; the bytes left fall at each call. The loop's invariant: up to there it does.
 -- Assumes nothing.
-use Prim.Native.Nat.{ℕ, _<_}
-use borrow.Fn.Kinds.{In}
+use borrow.Author.Needs.{needs}
+use native.Mathlib.Omega.{arith}
+use Prim.Native.Nat.{ℕ, _-_, _<_}
+use mathlib.Core.Path.{_≡_}
+use lib.ListN.{length, getD, length-take, length-drop}
+use Rattle.format.proofs.Choices.{held}
+use Rattle.fill.proofs.StringLaws.{char-is, char-not, byte-is, byte-not, yes-not, Chars, chars-start, chars-end, chars-not, chars-bytes, chars-gaps, no-chars, repeat-none}
+use Rattle.fill.proofs.StringLaws.{PatternAt, pattern-end, gone-turn, more-turn, stop-turn}
+use borrow.Fn.Kinds.{In, Out}
 use borrow.Fn.PlainCycle.{Measures, is, falls, and}
 use Rattle.fill.proofs.text.only_chars.Reads as only-chars
 use Rattle.fill.proofs.text.only_chars.Kinds as only-chars-kinds
@@ -23,6 +23,7 @@ use Rattle.wire.proofs.span.chars_end.Reads as chars-end-reads
 use Rattle.fill.proofs.text.+only_chars.{statement}
 use Rattle.fill.proofs.text.+only_chars.Tie.{close}
 
+-- ==== generated: the measures, what each member asks at and below the measure t, and what the functions that it calls ask and tell
 abbrev μ-only-chars : Measures 1 only-chars-kinds.ps ℕ
 μ-only-chars κs a = length (a .1 .0 .now)
 
@@ -54,172 +55,117 @@ only-chars-claims t = (
   only-chars.Post,
 )
 
+-- ==== the loop: what holds at its head, and what falls
 abbrev only-chars-Inv-loop : only-chars-lts.InvT-loop
 only-chars-Inv-loop depth s i₀ i = Chars depth s i
 
 abbrev only-chars-μ-loop : only-chars-lts.MeasureT-loop
 only-chars-μ-loop depth s i₀ i = length s - i
 
-only-chars-loop-holds : (t : ℕ) → only-chars-lts.Need-loop-holds (only-chars-claims t) (only-chars-at t) only-chars.Post only-chars-Inv-loop only-chars-μ-loop
-only-chars-loop-holds t c = chars-start _ _
+-- ==== a need of a member, or what is known at a place in it
+abbrev only-chars-of : ℕ → (only-chars-lts.Claims → In 1 only-chars-kinds.ps → Out 1 only-chars-kinds.ps only-chars-kinds.r → only-chars-lts.InvT-loop → only-chars-lts.MeasureT-loop → Type 0) → Type 0
+only-chars-of t N = N (only-chars-claims t) (only-chars-at t) only-chars.Post only-chars-Inv-loop only-chars-μ-loop
 
-only-chars-shared-slice-read-b : (t : ℕ) → only-chars-lts.Need-shared-slice-read-b (only-chars-claims t) (only-chars-at t) only-chars.Post only-chars-Inv-loop only-chars-μ-loop
-only-chars-shared-slice-read-b t c = search needs
+-- ==== the arguments of only_chars
+module _ (t : ℕ) where
+  -- a repeat, by its head
+  pattern-at : (c : only-chars-of t only-chars-lts.After-known-told)
+      → let l = c .before .before .before .before .before .before .before .before .before .before .before .before .before in
+      let h = c .before .h .given .0 in
+      PatternAt (l .before .before .args .depth) (l .before .before .args .s .now) (l .loop .i) (h .0) (h .1 .0) (h .1 .1 .0)
+  pattern-at c =
+      let h = rw (c .before .h .given .1) at (c .before .before .before .head-of .ensures) in
+      record { here = c .before .before .before .before .before .before .before .before .before .before .before .before .loop-test .taken; head = h }
 
-only-chars-add-behind : (t : ℕ) → only-chars-lts.Need-add-behind (only-chars-claims t) (only-chars-at t) only-chars.Post only-chars-Inv-loop only-chars-μ-loop
-only-chars-add-behind t c = search needs
+  repeat-at : (c : only-chars-of t only-chars-lts.After-known-told)
+      → let l = c .before .before .before .before .before .before .before .before .before .before .before .before .before in getD (l .before .before .args .s .now) (l .loop .i) 0 ≡ 0xc4
+  repeat-at c = byte-is _ _ _ (c .before .before .before .before .before .before .is-repeat .ensures) (held _ (c .before .before .before .before .before .if3 .left))
 
-only-chars-is-char-requires : (t : ℕ) → only-chars-lts.Need-is-char-requires (only-chars-claims t) (only-chars-at t) only-chars.Post only-chars-Inv-loop only-chars-μ-loop
-only-chars-is-char-requires t c κs = search needs
+  only-chars-loop-again-2 : only-chars-of t only-chars-lts.Need-loop-again-2
+  only-chars-loop-again-2 c =
+      let g = byte-is _ _ _ (c .before .before .is-padding .ensures) (c .before .if2 .taken) in
+      chars-gaps _ _ _ _ g (c .padding-end .ensures) (c .before .before .before .before .before .before .before .loop .inv)
 
-only-chars-chars-end-requires : (t : ℕ) → only-chars-lts.Need-chars-end-requires (only-chars-claims t) (only-chars-at t) only-chars.Post only-chars-Inv-loop only-chars-μ-loop
-only-chars-chars-end-requires t c κs = search needs
+  only-chars-returns : only-chars-of t only-chars-lts.Need-returns
+  only-chars-returns c =
+      let l = c .before .before .before .before .before .before .before .before in
+      let i = l .loop .i in
+      let b = c .before .before .before .before .before .before .shared-slice-known2 .given i in
+      let n = char-not _ _ (c .before .before .before .before .before .is-char .ensures) (c .before .before .before .before .if1 .left) in
+      let r = byte-not _ _ _ (c .before .is-repeat .ensures) (yes-not _ (c .if3 .taken)) in
+      let g = byte-not (getD (l .before .before .args .s .now) i 0) 0xff _ (c .before .before .before .is-padding .ensures) (c .before .before .if2 .left) in
+      chars-not (l .loop .inv) (c .before .before .before .before .before .before .before .loop-test .taken) (no-chars _ _ _ n r (omega (arith, b, g)))
 
-only-chars-loop-less : (t : ℕ) → only-chars-lts.Need-loop-less (only-chars-claims t) (only-chars-at t) only-chars.Post only-chars-Inv-loop only-chars-μ-loop
-only-chars-loop-less t c = omega (arith, c .chars-end .ensures .0, c .chars-end .ensures .1)
+  only-chars-only-chars-requires : only-chars-of t only-chars-lts.Need-only-chars-requires
+  only-chars-only-chars-requires c κs =
+      let l = pattern-end (pattern-at (c .before .before .before)) in
+      let p = c .before .before .before .before .before .before .before .before .before .before .before .before .before .before .before .before .before .before .pre in
+      (simp (length-take, length-drop) (omega arith), simp (length-take, length-drop) (omega arith))
 
-only-chars-loop-again : (t : ℕ) → only-chars-lts.Need-loop-again (only-chars-claims t) (only-chars-at t) only-chars.Post only-chars-Inv-loop only-chars-μ-loop
-only-chars-loop-again t c = chars-bytes _ _ _ _ (char-is _ _ (c .before .before .is-char .ensures) (c .before .if1 .taken)) (c .chars-end .ensures) (c .before .before .before .before .before .loop .inv)
+  only-chars-returns-2 : only-chars-of t only-chars-lts.Need-returns-2
+  only-chars-returns-2 c =
+      let k = c .before .before .before .before .before in
+      let n = c .before .before .before .before .copies-of .ensures in
+      let v = k .before .before .before .before .before .before .before .before .before .before .before .before .before .loop .inv in
+      stop-turn (pattern-at k) v (repeat-at k) (c .before .only-chars .ensures) (omega arith) (c .if5 .taken)
 
-only-chars-is-padding-requires : (t : ℕ) → only-chars-lts.Need-is-padding-requires (only-chars-claims t) (only-chars-at t) only-chars.Post only-chars-Inv-loop only-chars-μ-loop
-only-chars-is-padding-requires t c κs = search needs
+  only-chars-loop-again-3 : only-chars-of t only-chars-lts.Need-loop-again-3
+  only-chars-loop-again-3 c =
+      let k = c .before .before .before .before .before in
+      let n = c .before .before .before .before .copies-of .ensures in
+      let v = k .before .before .before .before .before .before .before .before .before .before .before .before .before .loop .inv in
+      more-turn (pattern-at k) v (repeat-at k) (c .before .only-chars .ensures) (omega arith) (c .if5 .left)
 
-only-chars-padding-end-requires : (t : ℕ) → only-chars-lts.Need-padding-end-requires (only-chars-claims t) (only-chars-at t) only-chars.Post only-chars-Inv-loop only-chars-μ-loop
-only-chars-padding-end-requires t c κs = search needs
+  only-chars-loop-again-4 : only-chars-of t only-chars-lts.Need-loop-again-4
+  only-chars-loop-again-4 c =
+      let k = c .before .before in
+      let v = k .before .before .before .before .before .before .before .before .before .before .before .before .before .loop .inv in
+      gone-turn (pattern-at k) v (repeat-at k) (omega (arith, c .before .copies-of .ensures))
 
-only-chars-loop-less-2 : (t : ℕ) → only-chars-lts.Need-loop-less-2 (only-chars-claims t) (only-chars-at t) only-chars.Post only-chars-Inv-loop only-chars-μ-loop
-only-chars-loop-less-2 t c = omega (arith, c .padding-end .ensures .0, c .padding-end .ensures .1)
+  only-chars-returns-3 : only-chars-of t only-chars-lts.Need-returns-3
+  only-chars-returns-3 c =
+      let h = c .before .head-of in
+      let r = byte-is _ _ _ (c .before .before .before .before .is-repeat .ensures) (held _ (c .before .before .before .if3 .left)) in
+      let l = c .before .before .before .before .before .before .before .before .before .before in
+      chars-not (l .before .loop .inv) (l .loop-test .taken) (repeat-none _ _ _ r (h .result) (c .match .keys2) (h .ensures))
 
-only-chars-loop-again-2 : (t : ℕ) → only-chars-lts.Need-loop-again-2 (only-chars-claims t) (only-chars-at t) only-chars.Post only-chars-Inv-loop only-chars-μ-loop
-only-chars-loop-again-2 t c = chars-gaps _ _ _ _ (byte-is _ _ _ (c .before .before .is-padding .ensures) (c .before .if2 .taken)) (c .padding-end .ensures) (c .before .before .before .before .before .before .before .loop .inv)
-
-only-chars-is-repeat-requires : (t : ℕ) → only-chars-lts.Need-is-repeat-requires (only-chars-claims t) (only-chars-at t) only-chars.Post only-chars-Inv-loop only-chars-μ-loop
-only-chars-is-repeat-requires t c κs = search needs
-
-only-chars-returns : (t : ℕ) → only-chars-lts.Need-returns (only-chars-claims t) (only-chars-at t) only-chars.Post only-chars-Inv-loop only-chars-μ-loop
-only-chars-returns t c =
-    let s = c .before .before .before .before .before .before .before .before .before .before .args .s .now in
-    let b = c .before .before .before .before .before .before .shared-slice-known2 .given (c .before .before .before .before .before .before .before .before .loop .i) in
-    chars-not _ s (c .before .before .before .before .before .before .before .before .loop .i) _ (c .before .before .before .before .before .before .before .before .loop .inv) (omega arith) refl (no-chars _ _ _ (char-not _ _ (c .before .before .before .before .before .is-char .ensures) (c .before .before .before .before .if1 .left)) (byte-not _ _ _ (c .before .is-repeat .ensures) (yes-not _ (c .if3 .taken))) (omega (arith, b, byte-not (getD s (c .before .before .before .before .before .before .before .before .loop .i) 0) 0xff _ (c .before .before .before .is-padding .ensures) (c .before .before .if2 .left))))
-
-only-chars-sub-head-of : (t : ℕ) → only-chars-lts.Need-sub-head-of (only-chars-claims t) (only-chars-at t) only-chars.Post only-chars-Inv-loop only-chars-μ-loop
-only-chars-sub-head-of t c = search needs
-
-only-chars-part-head-of-start : (t : ℕ) → only-chars-lts.Need-part-head-of-start (only-chars-claims t) (only-chars-at t) only-chars.Post only-chars-Inv-loop only-chars-μ-loop
-only-chars-part-head-of-start t c = search needs
-
-only-chars-part-head-of-end : (t : ℕ) → only-chars-lts.Need-part-head-of-end (only-chars-claims t) (only-chars-at t) only-chars.Post only-chars-Inv-loop only-chars-μ-loop
-only-chars-part-head-of-end t c = search needs
-
-only-chars-head-of-requires : (t : ℕ) → only-chars-lts.Need-head-of-requires (only-chars-claims t) (only-chars-at t) only-chars.Post only-chars-Inv-loop only-chars-μ-loop
-only-chars-head-of-requires t c κs = simp (length-take, length-drop) (omega (arith, c .before .before .before .before .before .before .before .before .before .before .before .pre .1))
-
-only-chars-enum-known-h : (t : ℕ) → only-chars-lts.Need-enum-known-h (only-chars-claims t) (only-chars-at t) only-chars.Post only-chars-Inv-loop only-chars-μ-loop
-only-chars-enum-known-h t c = search needs
-
-only-chars-add-from : (t : ℕ) → only-chars-lts.Need-add-from (only-chars-claims t) (only-chars-at t) only-chars.Post only-chars-Inv-loop only-chars-μ-loop
-only-chars-add-from t c =
-    let q = rw (c .before .h .given .1) at (c .before .before .before .head-of .ensures) in
-    omega (arith, q .1, part-length (c .before .before .before .before .before .before .before .before .before .before .before .before .before .loop .i + 1) (c .before .before .before .before .before .before .before .before .before .before .before .before .before .before .before .args .s .now))
-
-only-chars-add-end : (t : ℕ) → only-chars-lts.Need-add-end (only-chars-claims t) (only-chars-at t) only-chars.Post only-chars-Inv-loop only-chars-μ-loop
-only-chars-add-end t c =
-    let q = rw (c .before .h .given .1) at (c .before .before .before .head-of .ensures) in
-    omega (arith, q .1, part-length (c .before .before .before .before .before .before .before .before .before .before .before .before .before .loop .i + 1) (c .before .before .before .before .before .before .before .before .before .before .before .before .before .before .before .args .s .now))
-
-only-chars-copies-of-requires : (t : ℕ) → only-chars-lts.Need-copies-of-requires (only-chars-claims t) (only-chars-at t) only-chars.Post only-chars-Inv-loop only-chars-μ-loop
-only-chars-copies-of-requires t c κs = search needs
-
-only-chars-add-only-chars : (t : ℕ) → only-chars-lts.Need-add-only-chars (only-chars-claims t) (only-chars-at t) only-chars.Post only-chars-Inv-loop only-chars-μ-loop
-only-chars-add-only-chars t c = omega (arith, c .before .before .before .before .before .before .before .before .before .before .before .before .before .before .before .before .before .pre .1)
-
-only-chars-sub-only-chars : (t : ℕ) → only-chars-lts.Need-sub-only-chars (only-chars-claims t) (only-chars-at t) only-chars.Post only-chars-Inv-loop only-chars-μ-loop
-only-chars-sub-only-chars t c = search needs
-
-only-chars-part-only-chars-start : (t : ℕ) → only-chars-lts.Need-part-only-chars-start (only-chars-claims t) (only-chars-at t) only-chars.Post only-chars-Inv-loop only-chars-μ-loop
-only-chars-part-only-chars-start t c = search needs
-
-only-chars-part-only-chars-end : (t : ℕ) → only-chars-lts.Need-part-only-chars-end (only-chars-claims t) (only-chars-at t) only-chars.Post only-chars-Inv-loop only-chars-μ-loop
-only-chars-part-only-chars-end t c =
-    let q = rw (c .before .before .before .h .given .1) at (c .before .before .before .before .before .head-of .ensures) in
-    omega (arith, q .1, part-length (c .before .before .before .before .before .before .before .before .before .before .before .before .before .before .before .loop .i + 1) (c .before .before .before .before .before .before .before .before .before .before .before .before .before .before .before .before .before .args .s .now))
-
-only-chars-only-chars-requires : (t : ℕ) → only-chars-lts.Need-only-chars-requires (only-chars-claims t) (only-chars-at t) only-chars.Post only-chars-Inv-loop only-chars-μ-loop
-only-chars-only-chars-requires t c κs =
-    let q = rw (c .before .before .before .before .h .given .1) at (c .before .before .before .before .before .before .head-of .ensures) in
-    let l = part-length (c .before .before .before .before .before .before .before .before .before .before .before .before .before .before .before .before .loop .i + 1) (c .before .before .before .before .before .before .before .before .before .before .before .before .before .before .before .before .before .before .args .s .now) in
-    let p = c .before .before .before .before .before .before .before .before .before .before .before .before .before .before .before .before .before .before .pre in
-    let r = q .1 in
-    (simp (length-take, length-drop) (omega arith), simp (length-take, length-drop) (omega arith))
-
-only-chars-returns-2 : (t : ℕ) → only-chars-lts.Need-returns-2 (only-chars-claims t) (only-chars-at t) only-chars.Post only-chars-Inv-loop only-chars-μ-loop
-only-chars-returns-2 t c =
-    let q = rw (c .before .before .before .before .before .before .h .given .1) at (c .before .before .before .before .before .before .before .before .head-of .ensures) in
-    stop-turn _ (c .before .before .before .before .before .before .before .before .before .before .before .before .before .before .before .before .before .before .before .before .args .s .now) (c .before .before .before .before .before .before .before .before .before .before .before .before .before .before .before .before .before .before .loop .i) _ (c .before .before .before .before .before .before .before .before .before .before .before .before .before .before .before .before .before .before .loop .inv) (omega arith) refl (byte-is _ _ _ (c .before .before .before .before .before .before .before .before .before .before .before .is-repeat .ensures) (no-not _ (c .before .before .before .before .before .before .before .before .before .before .if3 .left))) (c .before .before .before .before .before .before .h .given .0 .0) (c .before .before .before .before .before .before .h .given .0 .1 .0) (c .before .before .before .before .before .before .h .given .0 .1 .1 .0) q (c .before .only-chars .result) (c .before .only-chars .ensures) (omega (arith, c .before .before .before .before .copies-of .ensures)) (c .if5 .taken)
-
-only-chars-loop-less-3 : (t : ℕ) → only-chars-lts.Need-loop-less-3 (only-chars-claims t) (only-chars-at t) only-chars.Post only-chars-Inv-loop only-chars-μ-loop
-only-chars-loop-less-3 t c =
-    let q = rw (c .before .before .before .before .before .before .h .given .1) at (c .before .before .before .before .before .before .before .before .head-of .ensures) in
-    omega (arith, q .1, part-length (c .before .before .before .before .before .before .before .before .before .before .before .before .before .before .before .before .before .before .loop .i + 1) (c .before .before .before .before .before .before .before .before .before .before .before .before .before .before .before .before .before .before .before .before .args .s .now))
-
-only-chars-loop-again-3 : (t : ℕ) → only-chars-lts.Need-loop-again-3 (only-chars-claims t) (only-chars-at t) only-chars.Post only-chars-Inv-loop only-chars-μ-loop
-only-chars-loop-again-3 t c =
-    let q = rw (c .before .before .before .before .before .before .h .given .1) at (c .before .before .before .before .before .before .before .before .head-of .ensures) in
-    more-turn _ (c .before .before .before .before .before .before .before .before .before .before .before .before .before .before .before .before .before .before .before .before .args .s .now) (c .before .before .before .before .before .before .before .before .before .before .before .before .before .before .before .before .before .before .loop .i) _ (c .before .before .before .before .before .before .before .before .before .before .before .before .before .before .before .before .before .before .loop .inv) (omega arith) refl (byte-is _ _ _ (c .before .before .before .before .before .before .before .before .before .before .before .is-repeat .ensures) (no-not _ (c .before .before .before .before .before .before .before .before .before .before .if3 .left))) (c .before .before .before .before .before .before .h .given .0 .0) (c .before .before .before .before .before .before .h .given .0 .1 .0) (c .before .before .before .before .before .before .h .given .0 .1 .1 .0) q (c .before .only-chars .result) (c .before .only-chars .ensures) (omega (arith, c .before .before .before .before .copies-of .ensures)) (c .if5 .left)
-
-only-chars-loop-less-4 : (t : ℕ) → only-chars-lts.Need-loop-less-4 (only-chars-claims t) (only-chars-at t) only-chars.Post only-chars-Inv-loop only-chars-μ-loop
-only-chars-loop-less-4 t c =
-    let q = rw (c .before .before .before .h .given .1) at (c .before .before .before .before .before .head-of .ensures) in
-    omega (arith, q .1, part-length (c .before .before .before .before .before .before .before .before .before .before .before .before .before .before .before .loop .i + 1) (c .before .before .before .before .before .before .before .before .before .before .before .before .before .before .before .before .before .args .s .now))
-
-only-chars-loop-again-4 : (t : ℕ) → only-chars-lts.Need-loop-again-4 (only-chars-claims t) (only-chars-at t) only-chars.Post only-chars-Inv-loop only-chars-μ-loop
-only-chars-loop-again-4 t c =
-    let q = rw (c .before .before .before .h .given .1) at (c .before .before .before .before .before .head-of .ensures) in
-    gone-turn _ (c .before .before .before .before .before .before .before .before .before .before .before .before .before .before .before .before .before .args .s .now) (c .before .before .before .before .before .before .before .before .before .before .before .before .before .before .before .loop .i) _ (c .before .before .before .before .before .before .before .before .before .before .before .before .before .before .before .loop .inv) (omega arith) refl (byte-is _ _ _ (c .before .before .before .before .before .before .before .before .is-repeat .ensures) (no-not _ (c .before .before .before .before .before .before .before .if3 .left))) (c .before .before .before .h .given .0 .0) (c .before .before .before .h .given .0 .1 .0) (c .before .before .before .h .given .0 .1 .1 .0) q (omega (arith, c .before .copies-of .ensures))
-
-only-chars-returns-3 : (t : ℕ) → only-chars-lts.Need-returns-3 (only-chars-claims t) (only-chars-at t) only-chars.Post only-chars-Inv-loop only-chars-μ-loop
-only-chars-returns-3 t c =
-    chars-not _ (c .before .before .before .before .before .before .before .before .before .before .before .before .before .args .s .now) (c .before .before .before .before .before .before .before .before .before .before .before .loop .i) _ (c .before .before .before .before .before .before .before .before .before .before .before .loop .inv) (omega arith) refl (repeat-none _ _ _ (byte-is _ _ _ (c .before .before .before .before .is-repeat .ensures) (no-not _ (c .before .before .before .if3 .left))) (c .before .head-of .result) (c .match .keys2) (c .before .head-of .ensures))
-
-only-chars-returns-4 : (t : ℕ) → only-chars-lts.Need-returns-4 (only-chars-claims t) (only-chars-at t) only-chars.Post only-chars-Inv-loop only-chars-μ-loop
-only-chars-returns-4 t c = chars-end _ _ _ (c .loop-test .left) (c .before .loop .inv)
-
+-- ==== the lists of needs
 pub +only-chars-spec : {M : Type 1} → statement M
 +only-chars-spec = close μ-only-chars λ t. only-chars-lts.spec (only-chars-claims t)
     (only-chars-at t)
     only-chars.Post
     only-chars-Inv-loop
     only-chars-μ-loop
-    (only-chars-loop-holds t)
-    (only-chars-shared-slice-read-b t)
-    (only-chars-add-behind t)
-    (only-chars-is-char-requires t)
-    (only-chars-chars-end-requires t)
-    (only-chars-loop-less t)
-    (only-chars-loop-again t)
-    (only-chars-is-padding-requires t)
-    (only-chars-padding-end-requires t)
-    (only-chars-loop-less-2 t)
+    (λ c. chars-start _ _)  -- loop-holds
+    (λ c. search needs)  -- shared-slice-read-b
+    (λ c. search needs)  -- add-behind
+    (λ c κs. search needs)  -- is-char-requires
+    (λ c κs. search needs)  -- chars-end-requires
+    (λ c. omega (arith, c .chars-end .ensures .0, c .chars-end .ensures .1))  -- loop-less
+    (λ c. let i = c .before .before in chars-bytes _ _ _ _ (char-is _ _ (i .is-char .ensures) (c .before .if1 .taken)) (c .chars-end .ensures) (i .before .before .before .loop .inv))  -- loop-again
+    (λ c κs. search needs)  -- is-padding-requires
+    (λ c κs. search needs)  -- padding-end-requires
+    (λ c. omega (arith, c .padding-end .ensures .0, c .padding-end .ensures .1))  -- loop-less-2
     (only-chars-loop-again-2 t)
-    (only-chars-is-repeat-requires t)
+    (λ c κs. search needs)  -- is-repeat-requires
     (only-chars-returns t)
-    (only-chars-sub-head-of t)
-    (only-chars-part-head-of-start t)
-    (only-chars-part-head-of-end t)
-    (only-chars-head-of-requires t)
-    (only-chars-enum-known-h t)
-    (only-chars-add-from t)
-    (only-chars-add-end t)
-    (only-chars-copies-of-requires t)
-    (only-chars-add-only-chars t)
-    (only-chars-sub-only-chars t)
-    (only-chars-part-only-chars-start t)
-    (only-chars-part-only-chars-end t)
+    (λ c. search needs)  -- sub-head-of
+    (λ c. search needs)  -- part-head-of-start
+    (λ c. search needs)  -- part-head-of-end
+    (λ c κs. simp (length-take, length-drop) (omega (arith, c .before .before .before .before .before .before .before .before .before .before .before .pre .1)))  -- head-of-requires
+    (λ c. search needs)  -- enum-known-h
+    (λ c. omega (arith, pattern-end (pattern-at t c)))  -- add-from
+    (λ c. omega (arith, pattern-end (pattern-at t c)))  -- add-end
+    (λ c κs. search needs)  -- copies-of-requires
+    (λ c. omega (arith, c .before .before .before .before .before .before .before .before .before .before .before .before .before .before .before .before .before .pre .1))  -- add-only-chars
+    (λ c. search needs)  -- sub-only-chars
+    (λ c. search needs)  -- part-only-chars-start
+    (λ c. pattern-end (pattern-at t (c .before .before)))  -- part-only-chars-end
     (only-chars-only-chars-requires t)
     (only-chars-returns-2 t)
-    (only-chars-loop-less-3 t)
+    (λ c. omega (arith, pattern-end (pattern-at t (c .before .before .before .before .before))))  -- loop-less-3
     (only-chars-loop-again-3 t)
-    (only-chars-loop-less-4 t)
+    (λ c. omega (arith, pattern-end (pattern-at t (c .before .before))))  -- loop-less-4
     (only-chars-loop-again-4 t)
     (only-chars-returns-3 t)
-    (only-chars-returns-4 t)
+    (λ c. chars-end _ _ _ (c .loop-test .left) (c .before .loop .inv))  -- returns-4

@@ -1,14 +1,12 @@
-use native.Mathlib.Omega.{arith}
-use Prim.Native.Nat.{_-_}
-use borrow.Author.Needs.{needs}
-use mathlib.Core.Path.{refl}
-use lib.ListN.{length, getD, length-take, length-drop}
-use Rattle.fill.proofs.StringLaws.{char-is, char-not, byte-is, byte-not}
-use Rattle.fill.proofs.Spelling.{Spelling, spelling-start, spelling-end, so-few, plain-fits, plain-turn, never, pattern-fits, none-turn, pattern-room, upto-least, copies-fit, times-turn, gap-turn}
 -- The walk that writes the codes of a run that says only CHARs; the bytes left fall at each call. The loop's invariant: the codes of
 -- the objects passed stand there. Assumes nothing.
-use Prim.Native.Nat.{ℕ, _<_}
-use borrow.Fn.Kinds.{In}
+use borrow.Author.Needs.{needs}
+use native.Mathlib.Omega.{arith}
+use Prim.Native.Nat.{ℕ, _+_, _-_, _*_, _≤_, _<_}
+use lib.ListN.{length, getD, length-take, length-drop}
+use Rattle.fill.proofs.StringLaws.{char-is, char-not, byte-is, byte-not, PatternAt, pattern-end}
+use Rattle.fill.proofs.Spelling.{Spelling, spelling-start, spelling-end, so-few, plain-fits, plain-turn, gap-turn, never, none-turn, pattern-room, copies-fit, times-turn}
+use borrow.Fn.Kinds.{In, Out}
 use borrow.Fn.PlainCycle.{Measures, is, falls, and}
 use Rattle.fill.proofs.text.put_chars.Reads as put-chars
 use Rattle.fill.proofs.text.put_chars.Kinds as put-chars-kinds
@@ -24,6 +22,7 @@ use Rattle.wire.proofs.span.chars_end.Reads as chars-end-reads
 use Rattle.fill.proofs.text.+put_chars.{statement}
 use Rattle.fill.proofs.text.+put_chars.Tie.{close}
 
+-- ==== generated: the measures, what each member asks at and below the measure t, and what the functions that it calls ask and tell
 abbrev μ-put-chars : Measures 2 put-chars-kinds.ps ℕ
 μ-put-chars κs a = length (a .1 .0 .now)
 
@@ -56,186 +55,136 @@ put-chars-claims t = (
   copy-codes-reads.Learnt,
 )
 
+-- ==== the loop: what holds at its head, and what falls
 abbrev put-chars-Inv-loop : put-chars-lts.InvT-loop
 put-chars-Inv-loop depth s n table₀ i₀ to₀ table i to = Spelling depth s n table₀ table i to
 
 abbrev put-chars-μ-loop : put-chars-lts.MeasureT-loop
 put-chars-μ-loop depth s n table₀ i₀ to₀ table i to = length s - i
 
-put-chars-loop-holds : (t : ℕ) → put-chars-lts.Need-loop-holds (put-chars-claims t) (put-chars-at t) put-chars.Post put-chars-Inv-loop put-chars-μ-loop
-put-chars-loop-holds t c = spelling-start _ _ _ (c .before .before .args .table .now) (c .before .before .pre .1 .1)
+-- ==== a need of a member, or what is known at a place in it
+abbrev put-chars-of : ℕ → (put-chars-lts.Claims → In 2 put-chars-kinds.ps → Out 2 put-chars-kinds.ps put-chars-kinds.r → put-chars-lts.InvT-loop → put-chars-lts.MeasureT-loop → Type 0) → Type 0
+put-chars-of t N = N (put-chars-claims t) (put-chars-at t) put-chars.Post put-chars-Inv-loop put-chars-μ-loop
 
-put-chars-shared-slice-read-b : (t : ℕ) → put-chars-lts.Need-shared-slice-read-b (put-chars-claims t) (put-chars-at t) put-chars.Post put-chars-Inv-loop put-chars-μ-loop
-put-chars-shared-slice-read-b t c = search needs
+-- ==== the arguments of put_chars
+module _ (t : ℕ) where
+  -- a repeat, by its head, and what its copies ask once its pattern is put
+  pattern-at : (c : put-chars-of t put-chars-lts.After-known-told)
+      → let l = c .before .before .before .before .before .before .before .before .before .before .before in
+      let h = c .before .h .given .0 in
+      PatternAt (l .before .before .before .args .depth) (l .before .before .before .args .s .now) (l .loop .i) (h .0) (h .1 .0) (h .1 .1 .0)
+  pattern-at c =
+      let h = rw (c .before .h .given .1) at (c .before .before .before .head-of .ensures) in
+      record { here = c .before .before .before .before .before .before .before .before .before .before .loop-test .taken; head = h }
 
-put-chars-add-behind : (t : ℕ) → put-chars-lts.Need-add-behind (put-chars-claims t) (put-chars-at t) put-chars.Post put-chars-Inv-loop put-chars-μ-loop
-put-chars-add-behind t c = search needs
+  copies-at : (c : put-chars-of t put-chars-lts.After-put-chars)
+      → let to = c .before .before .before .before .before .before .before .before .before .before .before .before .before .before .before .before .loop .to in
+      let p = c .put-chars in
+      let e = to + c .before .before .before .before .copies-of .result * (p .result - to) in
+      (to ≤ p .result) × (e ≤ 8 * length (p .last .1 .1 .1 .0)) × (e ≤ 131072)
+  copies-at c =
+      let k = c .before .before .before .before .before in
+      let p = c .put-chars in
+      let v = k .before .before .before .before .before .before .before .before .before .before .before .loop .inv in
+      copies-fit v (pattern-at k) (c .before .before .before .before .copies-of .ensures) (omega arith) (p .kept .1 .1 .1 .0) (p .ensures)
 
-put-chars-is-char-requires : (t : ℕ) → put-chars-lts.Need-is-char-requires (put-chars-claims t) (put-chars-at t) put-chars.Post put-chars-Inv-loop put-chars-μ-loop
-put-chars-is-char-requires t c κs = search needs
+  put-chars-put-low-requires : put-chars-of t put-chars-lts.Need-put-low-requires
+  put-chars-put-low-requires c κs =
+      let e = c .before .before in
+      plain-fits (e .before .before .before .before .before .loop .inv) _ (char-is _ _ (e .before .before .is-char .ensures) (e .before .if1 .taken)) (e .chars-end .ensures)
 
-put-chars-chars-end-requires : (t : ℕ) → put-chars-lts.Need-chars-end-requires (put-chars-claims t) (put-chars-at t) put-chars.Post put-chars-Inv-loop put-chars-μ-loop
-put-chars-chars-end-requires t c κs = search needs
+  put-chars-loop-again : put-chars-of t put-chars-lts.Need-loop-again
+  put-chars-loop-again c =
+      let e = c .before .before .before .before .before in
+      let p = c .before .before .put-low in
+      let b = char-is _ _ (e .before .before .is-char .ensures) (e .before .if1 .taken) in
+      plain-turn (e .before .before .before .before .before .loop .inv) _ b (e .chars-end .ensures) (p .kept .1 .1 .0) (p .ensures)
 
-put-chars-sub-put-low : (t : ℕ) → put-chars-lts.Need-sub-put-low (put-chars-claims t) (put-chars-at t) put-chars.Post put-chars-Inv-loop put-chars-μ-loop
-put-chars-sub-put-low t c = omega (arith, c .chars-end .ensures .0)
+  put-chars-loop-again-2 : put-chars-of t put-chars-lts.Need-loop-again-2
+  put-chars-loop-again-2 c =
+      let b = byte-is _ _ _ (c .before .before .is-padding .ensures) (c .before .if2 .taken) in
+      gap-turn (c .before .before .before .before .before .before .before .loop .inv) b (c .padding-end .ensures)
 
-put-chars-part-put-low-start : (t : ℕ) → put-chars-lts.Need-part-put-low-start (put-chars-claims t) (put-chars-at t) put-chars.Post put-chars-Inv-loop put-chars-μ-loop
-put-chars-part-put-low-start t c = omega (arith, c .chars-end .ensures .0)
+  put-chars-put-chars-requires : put-chars-of t put-chars-lts.Need-put-chars-requires
+  put-chars-put-chars-requires c κs =
+      let k = c .before .before .before .before in
+      let f = pattern-end (pattern-at k) in
+      let p = k .before .before .before .before .before .before .before .before .before .before .before .before .before .before .pre in
+      let v = k .before .before .before .before .before .before .before .before .before .before .before .loop .inv in
+      let r = pattern-room v (pattern-at k) (c .before .before .before .copies-of .ensures) (omega arith) in
+      (simp (length-take, length-drop) (omega arith), (simp (length-take, length-drop) (omega arith), r))
 
-put-chars-part-put-low-end : (t : ℕ) → put-chars-lts.Need-part-put-low-end (put-chars-claims t) (put-chars-at t) put-chars.Post put-chars-Inv-loop put-chars-μ-loop
-put-chars-part-put-low-end t c = c .chars-end .ensures .1
+  put-chars-loop-again-3 : put-chars-of t put-chars-lts.Need-loop-again-3
+  put-chars-loop-again-3 c =
+      let q = c .before .before .before .before .before .before in
+      let p = q .put-chars in
+      let k = q .before .before .before .before .before in
+      let d = c .before .before .copy-codes in
+      let v = k .before .before .before .before .before .before .before .before .before .before .before .loop .inv in
+      times-turn v (pattern-at k) (q .before .before .before .before .copies-of .ensures) (omega arith) (p .kept .1 .1 .1 .0) (p .ensures) (d .kept .0) (d .ensures)
 
-put-chars-put-low-requires : (t : ℕ) → put-chars-lts.Need-put-low-requires (put-chars-claims t) (put-chars-at t) put-chars.Post put-chars-Inv-loop put-chars-μ-loop
-put-chars-put-low-requires t c κs = plain-fits _ (c .before .before .before .before .before .before .before .before .before .before .args .s .now) _ _ _ (c .before .before .before .before .before .before .before .loop .i) _ (c .before .before .before .before .before .before .before .loop .inv) (c .before .before .chars-end .result) (omega arith) (char-is _ _ (c .before .before .before .before .is-char .ensures) (c .before .before .before .if1 .taken)) (c .before .before .chars-end .ensures)
+  put-chars-loop-again-4 : put-chars-of t put-chars-lts.Need-loop-again-4
+  put-chars-loop-again-4 c =
+      let k = c .before .before in
+      none-turn (k .before .before .before .before .before .before .before .before .before .before .before .loop .inv) (pattern-at k) (omega (arith, c .before .copies-of .ensures))
 
-put-chars-sub-to : (t : ℕ) → put-chars-lts.Need-sub-to (put-chars-claims t) (put-chars-at t) put-chars.Post put-chars-Inv-loop put-chars-μ-loop
-put-chars-sub-to t c = omega (arith, c .before .before .before .before .before .chars-end .ensures .0)
+  put-chars-returns : put-chars-of t put-chars-lts.Need-returns
+  put-chars-returns c =
+      let l = c .before .before .before .before .before .before .before .before .before in
+      let i = l .loop .i in
+      let s = l .before .before .before .args .s .now in
+      let h = c .before .head-of in
+      let b = c .before .before .before .before .before .before .before .shared-slice-known2 .given i in
+      let n = char-not (getD s i 0) _ (c .before .before .before .before .before .before .is-char .ensures) (c .before .before .before .before .before .if1 .left) in
+      let g = byte-not (getD s i 0) 0xff _ (c .before .before .before .before .is-padding .ensures) (c .before .before .before .if2 .left) in
+      absurd (never (l .loop .inv) (c .before .before .before .before .before .before .before .before .loop-test .taken) n (omega (arith, b, g)) (h .result) (c .match .keys2) (h .ensures))
 
-put-chars-add-to : (t : ℕ) → put-chars-lts.Need-add-to (put-chars-claims t) (put-chars-at t) put-chars.Post put-chars-Inv-loop put-chars-μ-loop
-put-chars-add-to t c = let v = plain-turn _ (c .before .before .before .before .before .before .before .before .before .before .before .before .before .args .s .now) _ _ _ (c .before .before .before .before .before .before .before .before .before .before .loop .i) _ (c .before .before .before .before .before .before .before .before .before .before .loop .inv) (c .before .before .before .before .before .chars-end .result) (omega arith) (char-is _ _ (c .before .before .before .before .before .before .before .is-char .ensures) (c .before .before .before .before .before .before .if1 .taken)) (c .before .before .before .before .before .chars-end .ensures) _ (c .before .before .put-low .kept .1 .1 .0) (c .before .before .put-low .ensures) in omega (arith, so-few _ _ _ _ _ _ _ v)
-
-put-chars-loop-less : (t : ℕ) → put-chars-lts.Need-loop-less (put-chars-claims t) (put-chars-at t) put-chars.Post put-chars-Inv-loop put-chars-μ-loop
-put-chars-loop-less t c = omega (arith, c .before .before .before .before .before .chars-end .ensures .0, c .before .before .before .before .before .chars-end .ensures .1)
-
-put-chars-loop-again : (t : ℕ) → put-chars-lts.Need-loop-again (put-chars-claims t) (put-chars-at t) put-chars.Post put-chars-Inv-loop put-chars-μ-loop
-put-chars-loop-again t c = plain-turn _ (c .before .before .before .before .before .before .before .before .before .before .before .before .before .args .s .now) _ _ _ (c .before .before .before .before .before .before .before .before .before .before .loop .i) _ (c .before .before .before .before .before .before .before .before .before .before .loop .inv) (c .before .before .before .before .before .chars-end .result) (omega arith) (char-is _ _ (c .before .before .before .before .before .before .before .is-char .ensures) (c .before .before .before .before .before .before .if1 .taken)) (c .before .before .before .before .before .chars-end .ensures) _ (c .before .before .put-low .kept .1 .1 .0) (c .before .before .put-low .ensures)
-
-put-chars-is-padding-requires : (t : ℕ) → put-chars-lts.Need-is-padding-requires (put-chars-claims t) (put-chars-at t) put-chars.Post put-chars-Inv-loop put-chars-μ-loop
-put-chars-is-padding-requires t c κs = search needs
-
-put-chars-padding-end-requires : (t : ℕ) → put-chars-lts.Need-padding-end-requires (put-chars-claims t) (put-chars-at t) put-chars.Post put-chars-Inv-loop put-chars-μ-loop
-put-chars-padding-end-requires t c κs = search needs
-
-put-chars-loop-less-2 : (t : ℕ) → put-chars-lts.Need-loop-less-2 (put-chars-claims t) (put-chars-at t) put-chars.Post put-chars-Inv-loop put-chars-μ-loop
-put-chars-loop-less-2 t c = omega (arith, c .padding-end .ensures .0, c .padding-end .ensures .1)
-
-put-chars-loop-again-2 : (t : ℕ) → put-chars-lts.Need-loop-again-2 (put-chars-claims t) (put-chars-at t) put-chars.Post put-chars-Inv-loop put-chars-μ-loop
-put-chars-loop-again-2 t c = gap-turn _ (c .before .before .before .before .before .before .before .before .before .before .args .s .now) _ _ _ (c .before .before .before .before .before .before .before .loop .i) _ _ (c .before .before .before .before .before .before .before .loop .inv) (omega arith) (byte-is _ _ _ (c .before .before .is-padding .ensures) (c .before .if2 .taken)) (c .padding-end .ensures)
-
-put-chars-sub-head-of : (t : ℕ) → put-chars-lts.Need-sub-head-of (put-chars-claims t) (put-chars-at t) put-chars.Post put-chars-Inv-loop put-chars-μ-loop
-put-chars-sub-head-of t c = search needs
-
-put-chars-part-head-of-start : (t : ℕ) → put-chars-lts.Need-part-head-of-start (put-chars-claims t) (put-chars-at t) put-chars.Post put-chars-Inv-loop put-chars-μ-loop
-put-chars-part-head-of-start t c = search needs
-
-put-chars-part-head-of-end : (t : ℕ) → put-chars-lts.Need-part-head-of-end (put-chars-claims t) (put-chars-at t) put-chars.Post put-chars-Inv-loop put-chars-μ-loop
-put-chars-part-head-of-end t c = search needs
-
-put-chars-head-of-requires : (t : ℕ) → put-chars-lts.Need-head-of-requires (put-chars-claims t) (put-chars-at t) put-chars.Post put-chars-Inv-loop put-chars-μ-loop
-put-chars-head-of-requires t c κs = simp (length-take, length-drop) (omega (arith, c .before .before .before .before .before .before .before .before .before .before .pre .1 .0))
-
-put-chars-enum-known-h : (t : ℕ) → put-chars-lts.Need-enum-known-h (put-chars-claims t) (put-chars-at t) put-chars.Post put-chars-Inv-loop put-chars-μ-loop
-put-chars-enum-known-h t c = search needs
-
-put-chars-add-from : (t : ℕ) → put-chars-lts.Need-add-from (put-chars-claims t) (put-chars-at t) put-chars.Post put-chars-Inv-loop put-chars-μ-loop
-put-chars-add-from t c = let f = pattern-fits _ (c .before .before .before .before .before .before .before .before .before .before .before .before .before .before .args .s .now) _ _ _ (c .before .before .before .before .before .before .before .before .before .before .before .loop .i) _ (c .before .before .before .before .before .before .before .before .before .before .before .loop .inv) _ (omega arith) refl (c .before .h .given .0 .0) (c .before .h .given .0 .1 .0) (c .before .h .given .0 .1 .1 .0) (rw (c .before .h .given .1) at (c .before .before .before .head-of .ensures)) in omega arith
-
-put-chars-add-end : (t : ℕ) → put-chars-lts.Need-add-end (put-chars-claims t) (put-chars-at t) put-chars.Post put-chars-Inv-loop put-chars-μ-loop
-put-chars-add-end t c = let f = pattern-fits _ (c .before .before .before .before .before .before .before .before .before .before .before .before .before .before .args .s .now) _ _ _ (c .before .before .before .before .before .before .before .before .before .before .before .loop .i) _ (c .before .before .before .before .before .before .before .before .before .before .before .loop .inv) _ (omega arith) refl (c .before .h .given .0 .0) (c .before .h .given .0 .1 .0) (c .before .h .given .0 .1 .1 .0) (rw (c .before .h .given .1) at (c .before .before .before .head-of .ensures)) in omega arith
-
-put-chars-copies-of-requires : (t : ℕ) → put-chars-lts.Need-copies-of-requires (put-chars-claims t) (put-chars-at t) put-chars.Post put-chars-Inv-loop put-chars-μ-loop
-put-chars-copies-of-requires t c κs = search needs
-
-put-chars-add-put-chars : (t : ℕ) → put-chars-lts.Need-add-put-chars (put-chars-claims t) (put-chars-at t) put-chars.Post put-chars-Inv-loop put-chars-μ-loop
-put-chars-add-put-chars t c = omega (arith, c .before .before .before .before .before .before .before .before .before .before .before .before .before .before .before .before .pre .1 .0)
-
-put-chars-sub-put-chars : (t : ℕ) → put-chars-lts.Need-sub-put-chars (put-chars-claims t) (put-chars-at t) put-chars.Post put-chars-Inv-loop put-chars-μ-loop
-put-chars-sub-put-chars t c = search needs
-
-put-chars-part-put-chars-start : (t : ℕ) → put-chars-lts.Need-part-put-chars-start (put-chars-claims t) (put-chars-at t) put-chars.Post put-chars-Inv-loop put-chars-μ-loop
-put-chars-part-put-chars-start t c = search needs
-
-put-chars-part-put-chars-end : (t : ℕ) → put-chars-lts.Need-part-put-chars-end (put-chars-claims t) (put-chars-at t) put-chars.Post put-chars-Inv-loop put-chars-μ-loop
-put-chars-part-put-chars-end t c = pattern-fits _ (c .before .before .before .before .before .before .before .before .before .before .before .before .before .before .before .before .args .s .now) _ _ _ (c .before .before .before .before .before .before .before .before .before .before .before .before .before .loop .i) _ (c .before .before .before .before .before .before .before .before .before .before .before .before .before .loop .inv) _ (omega arith) refl (c .before .before .before .h .given .0 .0) (c .before .before .before .h .given .0 .1 .0) (c .before .before .before .h .given .0 .1 .1 .0) (rw (c .before .before .before .h .given .1) at (c .before .before .before .before .before .head-of .ensures))
-
-put-chars-put-chars-requires : (t : ℕ) → put-chars-lts.Need-put-chars-requires (put-chars-claims t) (put-chars-at t) put-chars.Post put-chars-Inv-loop put-chars-μ-loop
-put-chars-put-chars-requires t c κs =
-    let f = pattern-fits _ (c .before .before .before .before .before .before .before .before .before .before .before .before .before .before .before .before .before .before .args .s .now) _ _ _ (c .before .before .before .before .before .before .before .before .before .before .before .before .before .before .before .loop .i) _ (c .before .before .before .before .before .before .before .before .before .before .before .before .before .before .before .loop .inv) _ (omega arith) refl (c .before .before .before .before .before .h .given .0 .0) (c .before .before .before .before .before .h .given .0 .1 .0) (c .before .before .before .before .before .h .given .0 .1 .1 .0) (rw (c .before .before .before .before .before .h .given .1) at (c .before .before .before .before .before .before .before .head-of .ensures)) in
-    let p = c .before .before .before .before .before .before .before .before .before .before .before .before .before .before .before .before .before .before .pre in
-    (simp (length-take, length-drop) (omega arith), (simp (length-take, length-drop) (omega arith), pattern-room _ (c .before .before .before .before .before .before .before .before .before .before .before .before .before .before .before .before .before .before .args .s .now) _ _ _ (c .before .before .before .before .before .before .before .before .before .before .before .before .before .before .before .loop .i) _ (c .before .before .before .before .before .before .before .before .before .before .before .before .before .before .before .loop .inv) _ (omega arith) refl (c .before .before .before .before .before .h .given .0 .0) (c .before .before .before .before .before .h .given .0 .1 .0) (c .before .before .before .before .before .h .given .0 .1 .1 .0) (rw (c .before .before .before .before .before .h .given .1) at (c .before .before .before .before .before .before .before .head-of .ensures)) _ (c .before .before .before .copies-of .ensures) (omega arith)))
-
-put-chars-sub-m : (t : ℕ) → put-chars-lts.Need-sub-m (put-chars-claims t) (put-chars-at t) put-chars.Post put-chars-Inv-loop put-chars-μ-loop
-put-chars-sub-m t c = upto-least _ (c .before .before .before .before .before .before .before .before .before .before .before .before .before .before .before .before .before .before .before .before .before .args .s .now) _ _ _ (c .before .before .before .before .before .before .before .before .before .before .before .before .before .before .before .before .before .before .loop .i) _ (c .before .before .before .before .before .before .before .before .before .before .before .before .before .before .before .before .before .before .loop .inv) _ (omega arith) refl (c .before .before .before .before .before .before .before .before .h .given .0 .0) (c .before .before .before .before .before .before .before .before .h .given .0 .1 .0) (c .before .before .before .before .before .before .before .before .h .given .0 .1 .1 .0) (rw (c .before .before .before .before .before .before .before .before .h .given .1) at (c .before .before .before .before .before .before .before .before .before .before .head-of .ensures)) _ (c .before .before .before .before .before .before .copies-of .ensures) (omega arith) _ _ (c .before .before .put-chars .kept .1 .1 .1 .0) (c .before .before .put-chars .ensures)
-
-put-chars-copy-codes-requires : (t : ℕ) → put-chars-lts.Need-copy-codes-requires (put-chars-claims t) (put-chars-at t) put-chars.Post put-chars-Inv-loop put-chars-μ-loop
-put-chars-copy-codes-requires t c κs = let f = copies-fit _ (c .before .before .before .before .before .before .before .before .before .before .before .before .before .before .before .before .before .before .before .before .before .before .args .s .now) _ _ _ (c .before .before .before .before .before .before .before .before .before .before .before .before .before .before .before .before .before .before .before .loop .i) _ (c .before .before .before .before .before .before .before .before .before .before .before .before .before .before .before .before .before .before .before .loop .inv) _ (omega arith) refl (c .before .before .before .before .before .before .before .before .before .h .given .0 .0) (c .before .before .before .before .before .before .before .before .before .h .given .0 .1 .0) (c .before .before .before .before .before .before .before .before .before .h .given .0 .1 .1 .0) (rw (c .before .before .before .before .before .before .before .before .before .h .given .1) at (c .before .before .before .before .before .before .before .before .before .before .before .head-of .ensures)) _ (c .before .before .before .before .before .before .before .copies-of .ensures) (omega arith) _ _ (c .before .before .before .put-chars .kept .1 .1 .1 .0) (c .before .before .before .put-chars .ensures) in (omega arith, f .0, f .1)
-
-put-chars-mul-to : (t : ℕ) → put-chars-lts.Need-mul-to (put-chars-claims t) (put-chars-at t) put-chars.Post put-chars-Inv-loop put-chars-μ-loop
-put-chars-mul-to t c = let f = copies-fit _ (c .before .before .before .before .before .before .before .before .before .before .before .before .before .before .before .before .before .before .before .before .before .before .before .before .before .args .s .now) _ _ _ (c .before .before .before .before .before .before .before .before .before .before .before .before .before .before .before .before .before .before .before .before .before .before .loop .i) _ (c .before .before .before .before .before .before .before .before .before .before .before .before .before .before .before .before .before .before .before .before .before .before .loop .inv) _ (omega arith) refl (c .before .before .before .before .before .before .before .before .before .before .before .before .h .given .0 .0) (c .before .before .before .before .before .before .before .before .before .before .before .before .h .given .0 .1 .0) (c .before .before .before .before .before .before .before .before .before .before .before .before .h .given .0 .1 .1 .0) (rw (c .before .before .before .before .before .before .before .before .before .before .before .before .h .given .1) at (c .before .before .before .before .before .before .before .before .before .before .before .before .before .before .head-of .ensures)) _ (c .before .before .before .before .before .before .before .before .before .before .copies-of .ensures) (omega arith) _ _ (c .before .before .before .before .before .before .put-chars .kept .1 .1 .1 .0) (c .before .before .before .before .before .before .put-chars .ensures) in omega (arith, f .1)
-
-put-chars-add-to-2 : (t : ℕ) → put-chars-lts.Need-add-to-2 (put-chars-claims t) (put-chars-at t) put-chars.Post put-chars-Inv-loop put-chars-μ-loop
-put-chars-add-to-2 t c = let f = copies-fit _ (c .before .before .before .before .before .before .before .before .before .before .before .before .before .before .before .before .before .before .before .before .before .before .before .before .before .args .s .now) _ _ _ (c .before .before .before .before .before .before .before .before .before .before .before .before .before .before .before .before .before .before .before .before .before .before .loop .i) _ (c .before .before .before .before .before .before .before .before .before .before .before .before .before .before .before .before .before .before .before .before .before .before .loop .inv) _ (omega arith) refl (c .before .before .before .before .before .before .before .before .before .before .before .before .h .given .0 .0) (c .before .before .before .before .before .before .before .before .before .before .before .before .h .given .0 .1 .0) (c .before .before .before .before .before .before .before .before .before .before .before .before .h .given .0 .1 .1 .0) (rw (c .before .before .before .before .before .before .before .before .before .before .before .before .h .given .1) at (c .before .before .before .before .before .before .before .before .before .before .before .before .before .before .head-of .ensures)) _ (c .before .before .before .before .before .before .before .before .before .before .copies-of .ensures) (omega arith) _ _ (c .before .before .before .before .before .before .put-chars .kept .1 .1 .1 .0) (c .before .before .before .before .before .before .put-chars .ensures) in omega (arith, f .1)
-
-put-chars-loop-less-3 : (t : ℕ) → put-chars-lts.Need-loop-less-3 (put-chars-claims t) (put-chars-at t) put-chars.Post put-chars-Inv-loop put-chars-μ-loop
-put-chars-loop-less-3 t c = let f = pattern-fits _ (c .before .before .before .before .before .before .before .before .before .before .before .before .before .before .before .before .before .before .before .before .before .before .before .before .before .args .s .now) _ _ _ (c .before .before .before .before .before .before .before .before .before .before .before .before .before .before .before .before .before .before .before .before .before .before .loop .i) _ (c .before .before .before .before .before .before .before .before .before .before .before .before .before .before .before .before .before .before .before .before .before .before .loop .inv) _ (omega arith) refl (c .before .before .before .before .before .before .before .before .before .before .before .before .h .given .0 .0) (c .before .before .before .before .before .before .before .before .before .before .before .before .h .given .0 .1 .0) (c .before .before .before .before .before .before .before .before .before .before .before .before .h .given .0 .1 .1 .0) (rw (c .before .before .before .before .before .before .before .before .before .before .before .before .h .given .1) at (c .before .before .before .before .before .before .before .before .before .before .before .before .before .before .head-of .ensures)) in omega arith
-
-put-chars-loop-again-3 : (t : ℕ) → put-chars-lts.Need-loop-again-3 (put-chars-claims t) (put-chars-at t) put-chars.Post put-chars-Inv-loop put-chars-μ-loop
-put-chars-loop-again-3 t c = times-turn _ (c .before .before .before .before .before .before .before .before .before .before .before .before .before .before .before .before .before .before .before .before .before .before .before .before .before .args .s .now) _ _ _ (c .before .before .before .before .before .before .before .before .before .before .before .before .before .before .before .before .before .before .before .before .before .before .loop .i) _ (c .before .before .before .before .before .before .before .before .before .before .before .before .before .before .before .before .before .before .before .before .before .before .loop .inv) _ (omega arith) refl (c .before .before .before .before .before .before .before .before .before .before .before .before .h .given .0 .0) (c .before .before .before .before .before .before .before .before .before .before .before .before .h .given .0 .1 .0) (c .before .before .before .before .before .before .before .before .before .before .before .before .h .given .0 .1 .1 .0) (rw (c .before .before .before .before .before .before .before .before .before .before .before .before .h .given .1) at (c .before .before .before .before .before .before .before .before .before .before .before .before .before .before .head-of .ensures)) _ (c .before .before .before .before .before .before .before .before .before .before .copies-of .ensures) (omega arith) _ _ (c .before .before .before .before .before .before .put-chars .kept .1 .1 .1 .0) (c .before .before .before .before .before .before .put-chars .ensures) _ (c .before .before .copy-codes .kept .0) (c .before .before .copy-codes .ensures)
-
-put-chars-loop-less-4 : (t : ℕ) → put-chars-lts.Need-loop-less-4 (put-chars-claims t) (put-chars-at t) put-chars.Post put-chars-Inv-loop put-chars-μ-loop
-put-chars-loop-less-4 t c = let f = pattern-fits _ (c .before .before .before .before .before .before .before .before .before .before .before .before .before .before .before .before .args .s .now) _ _ _ (c .before .before .before .before .before .before .before .before .before .before .before .before .before .loop .i) _ (c .before .before .before .before .before .before .before .before .before .before .before .before .before .loop .inv) _ (omega arith) refl (c .before .before .before .h .given .0 .0) (c .before .before .before .h .given .0 .1 .0) (c .before .before .before .h .given .0 .1 .1 .0) (rw (c .before .before .before .h .given .1) at (c .before .before .before .before .before .head-of .ensures)) in omega arith
-
-put-chars-loop-again-4 : (t : ℕ) → put-chars-lts.Need-loop-again-4 (put-chars-claims t) (put-chars-at t) put-chars.Post put-chars-Inv-loop put-chars-μ-loop
-put-chars-loop-again-4 t c = none-turn _ (c .before .before .before .before .before .before .before .before .before .before .before .before .before .before .before .before .args .s .now) _ _ _ (c .before .before .before .before .before .before .before .before .before .before .before .before .before .loop .i) _ (c .before .before .before .before .before .before .before .before .before .before .before .before .before .loop .inv) _ (omega arith) refl (c .before .before .before .h .given .0 .0) (c .before .before .before .h .given .0 .1 .0) (c .before .before .before .h .given .0 .1 .1 .0) (rw (c .before .before .before .h .given .1) at (c .before .before .before .before .before .head-of .ensures)) (omega (arith, c .before .copies-of .ensures))
-
-put-chars-same-length : (t : ℕ) → put-chars-lts.Need-same-length (put-chars-claims t) (put-chars-at t) put-chars.Post put-chars-Inv-loop put-chars-μ-loop
-put-chars-same-length t c = search needs
-
-put-chars-returns : (t : ℕ) → put-chars-lts.Need-returns (put-chars-claims t) (put-chars-at t) put-chars.Post put-chars-Inv-loop put-chars-μ-loop
-put-chars-returns t c = let b = c .before .before .before .before .before .before .before .shared-slice-known2 .given (c .before .before .before .before .before .before .before .before .before .loop .i) in absurd (never _ (c .before .before .before .before .before .before .before .before .before .before .before .before .args .s .now) _ _ _ (c .before .before .before .before .before .before .before .before .before .loop .i) _ (c .before .before .before .before .before .before .before .before .before .loop .inv) _ (omega arith) refl (char-not (getD (c .before .before .before .before .before .before .before .before .before .before .before .before .args .s .now) (c .before .before .before .before .before .before .before .before .before .loop .i) 0) _ (c .before .before .before .before .before .before .is-char .ensures) (c .before .before .before .before .before .if1 .left)) (omega (arith, b, byte-not (getD (c .before .before .before .before .before .before .before .before .before .before .before .before .args .s .now) (c .before .before .before .before .before .before .before .before .before .loop .i) 0) 0xff _ (c .before .before .before .before .is-padding .ensures) (c .before .before .before .if2 .left))) (c .before .head-of .result) (c .match .keys2) (c .before .head-of .ensures))
-
-put-chars-same-length-2 : (t : ℕ) → put-chars-lts.Need-same-length-2 (put-chars-claims t) (put-chars-at t) put-chars.Post put-chars-Inv-loop put-chars-μ-loop
-put-chars-same-length-2 t c = search needs
-
-put-chars-returns-2 : (t : ℕ) → put-chars-lts.Need-returns-2 (put-chars-claims t) (put-chars-at t) put-chars.Post put-chars-Inv-loop put-chars-μ-loop
-put-chars-returns-2 t c = spelling-end _ _ _ _ _ _ _ (c .before .loop .inv) (c .loop-test .left)
-
+-- ==== the lists of needs
 pub +put-chars-spec : {M : Type 1} → statement M
 +put-chars-spec = close μ-put-chars λ t. put-chars-lts.spec (put-chars-claims t)
     (put-chars-at t)
     put-chars.Post
     put-chars-Inv-loop
     put-chars-μ-loop
-    (put-chars-loop-holds t)
-    (put-chars-shared-slice-read-b t)
-    (put-chars-add-behind t)
-    (put-chars-is-char-requires t)
-    (put-chars-chars-end-requires t)
-    (put-chars-sub-put-low t)
-    (put-chars-part-put-low-start t)
-    (put-chars-part-put-low-end t)
+    (λ c. spelling-start (c .before .before .pre .1 .1))  -- loop-holds
+    (λ c. search needs)  -- shared-slice-read-b
+    (λ c. search needs)  -- add-behind
+    (λ c κs. search needs)  -- is-char-requires
+    (λ c κs. search needs)  -- chars-end-requires
+    (λ c. omega (arith, c .chars-end .ensures .0))  -- sub-put-low
+    (λ c. omega (arith, c .chars-end .ensures .0))  -- part-put-low-start
+    (λ c. c .chars-end .ensures .1)  -- part-put-low-end
     (put-chars-put-low-requires t)
-    (put-chars-sub-to t)
-    (put-chars-add-to t)
-    (put-chars-loop-less t)
+    (λ c. let e = c .before .before .before .before .before .chars-end .ensures in omega (arith, e .0))  -- sub-to
+    (λ c. omega (arith, so-few (put-chars-loop-again t c)))  -- add-to
+    (λ c. let e = c .before .before .before .before .before .chars-end .ensures in omega (arith, e .0, e .1))  -- loop-less
     (put-chars-loop-again t)
-    (put-chars-is-padding-requires t)
-    (put-chars-padding-end-requires t)
-    (put-chars-loop-less-2 t)
+    (λ c κs. search needs)  -- is-padding-requires
+    (λ c κs. search needs)  -- padding-end-requires
+    (λ c. omega (arith, c .padding-end .ensures .0, c .padding-end .ensures .1))  -- loop-less-2
     (put-chars-loop-again-2 t)
-    (put-chars-sub-head-of t)
-    (put-chars-part-head-of-start t)
-    (put-chars-part-head-of-end t)
-    (put-chars-head-of-requires t)
-    (put-chars-enum-known-h t)
-    (put-chars-add-from t)
-    (put-chars-add-end t)
-    (put-chars-copies-of-requires t)
-    (put-chars-add-put-chars t)
-    (put-chars-sub-put-chars t)
-    (put-chars-part-put-chars-start t)
-    (put-chars-part-put-chars-end t)
+    (λ c. search needs)  -- sub-head-of
+    (λ c. search needs)  -- part-head-of-start
+    (λ c. search needs)  -- part-head-of-end
+    (λ c κs. simp (length-take, length-drop) (omega (arith, c .before .before .before .before .before .before .before .before .before .before .pre .1 .0)))  -- head-of-requires
+    (λ c. search needs)  -- enum-known-h
+    (λ c. omega (arith, pattern-end (pattern-at t c)))  -- add-from
+    (λ c. omega (arith, pattern-end (pattern-at t c)))  -- add-end
+    (λ c κs. search needs)  -- copies-of-requires
+    (λ c. omega (arith, c .before .before .before .before .before .before .before .before .before .before .before .before .before .before .before .before .pre .1 .0))  -- add-put-chars
+    (λ c. search needs)  -- sub-put-chars
+    (λ c. search needs)  -- part-put-chars-start
+    (λ c. pattern-end (pattern-at t (c .before .before)))  -- part-put-chars-end
     (put-chars-put-chars-requires t)
-    (put-chars-sub-m t)
-    (put-chars-copy-codes-requires t)
-    (put-chars-mul-to t)
-    (put-chars-add-to-2 t)
-    (put-chars-loop-less-3 t)
+    (λ c. copies-at t (c .before .before) .0)  -- sub-m
+    (λ c κs. let f = copies-at t (c .before .before .before) in (omega arith, f .1, f .2))  -- copy-codes-requires
+    (λ c. omega (arith, copies-at t (c .before .before .before .before .before .before) .2))  -- mul-to
+    (λ c. omega (arith, copies-at t (c .before .before .before .before .before .before) .2))  -- add-to-2
+    (λ c. omega (arith, pattern-end (pattern-at t (c .before .before .before .before .before .before .before .before .before .before .before))))  -- loop-less-3
     (put-chars-loop-again-3 t)
-    (put-chars-loop-less-4 t)
+    (λ c. omega (arith, pattern-end (pattern-at t (c .before .before))))  -- loop-less-4
     (put-chars-loop-again-4 t)
-    (put-chars-same-length t)
+    (λ c. search needs)  -- same-length
     (put-chars-returns t)
-    (put-chars-same-length-2 t)
-    (put-chars-returns-2 t)
+    (λ c. search needs)  -- same-length-2
+    (λ c. spelling-end (c .before .loop .inv) (c .loop-test .left))  -- returns-2

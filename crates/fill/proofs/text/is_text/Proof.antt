@@ -7,11 +7,8 @@ use Rattle.fill.proofs.text.is_text.Tie as tie
 returns : tie.Need-returns
 returns c = raw-text _ _ _ (c .if1 .taken)
 
-only-chars-requires : tie.Need-only-chars-requires
-only-chars-requires c κs = search needs
-
 returns-2 : tie.Need-returns-2
 returns-2 c = run-text _ _ _ (c .before .if1 .left) _ (c .only-chars .ensures)
 
 pub is-text-spec : {M : Type 1} → statement M
-is-text-spec = tie.close (tie.spec returns only-chars-requires returns-2)
+is-text-spec = tie.close (tie.spec returns (λ c κs. search needs) returns-2)

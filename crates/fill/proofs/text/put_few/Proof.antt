@@ -1,81 +1,42 @@
 -- `put_few` meets its contract: bytes that are characters are put at once, and any other contents as `put_string` does. Assumes nothing.
 use native.Mathlib.Omega.{arith}
-use Prim.Native.Nat.{_+_, _-_}
-use mathlib.Core.Path.{_∙_}
-use lib.ListN.{length, take, drop}
-use Rattle.fill.proofs.Over.{part-length}
-use Rattle.fill.proofs.TextLaws.{raw-text, raw-room, raw-put, words-at, words-fit, count-few, row-room, string-put}
+use Rattle.fill.proofs.TextLaws.{raw-text, raw-room, raw-put, Spellable, spellable, words-at, words-fit, count-few, row-room, string-put}
 use borrow.Author.Needs.{needs}
 use Rattle.fill.proofs.text.put_few.Statement.{statement}
 use Rattle.fill.proofs.text.put_few.Tie as tie
 
-few-bytewise-requires : tie.Need-few-bytewise-requires
-few-bytewise-requires c κs = search needs
-
-add-at : tie.Need-add-at
-add-at c = omega (arith, words-at _ _ _ _ _ _ (c .before .before .before .before .args .table .now) (c .before .few-bytewise .ensures) (c .before .before .before .before .pre .1) (raw-text _ _ _ (c .if1 .taken)))
-
-mul-put-low : tie.Need-mul-put-low
-mul-put-low c = omega (arith, words-at _ _ _ _ _ _ (c .before .before .before .before .args .table .now) (c .before .few-bytewise .ensures) (c .before .before .before .before .pre .1) (raw-text _ _ _ (c .if1 .taken)))
-
-sub-put-low : tie.Need-sub-put-low
-sub-put-low c = words-at _ _ _ _ _ _ (c .before .before .before .before .args .table .now) (c .before .few-bytewise .ensures) (c .before .before .before .before .pre .1) (raw-text _ _ _ (c .if1 .taken))
-
-part-put-low-start : tie.Need-part-put-low-start
-part-put-low-start c = words-at _ _ _ _ _ _ (c .before .before .before .before .args .table .now) (c .before .few-bytewise .ensures) (c .before .before .before .before .pre .1) (raw-text _ _ _ (c .if1 .taken))
-
-part-put-low-end : tie.Need-part-put-low-end
-part-put-low-end c = search needs
-
-put-low-requires : tie.Need-put-low-requires
-put-low-requires c κs =
-    let t = c .before .before .before .before .before .args .table .now in
-    let at = c .before .before .before .before .before .args .gap + c .before .before .before .before .before .args .base in
-    raw-room _ _ _ (take (length t - at) (drop at t)) (words-fit _ _ _ _ _ _ (c .before .before .before .before .before .args .table .now) (c .before .before .few-bytewise .ensures) (c .before .before .before .before .before .pre .1) (raw-text _ _ _ (c .before .if1 .taken))) (c .before .if1 .taken)
-
-put-row-requires : tie.Need-put-row-requires
-put-row-requires c κs =
-    row-room _ _ _ _ _ _ (c .before .before .before .before .before .before .before .before .before .args .table .now) (c .before .before .before .before .before .before .few-bytewise .ensures) (c .before .before .before .before .before .before .before .before .before .pre .1) (raw-text _ _ _ (c .before .before .before .before .before .if1 .taken)) _ _ (raw-put _ _ _ _ (words-fit _ _ _ _ _ _ (c .before .before .before .before .before .before .before .before .before .args .table .now) (c .before .before .before .before .before .before .few-bytewise .ensures) (c .before .before .before .before .before .before .before .before .before .pre .1) (raw-text _ _ _ (c .before .before .before .before .before .if1 .taken))) (c .before .before .before .before .before .if1 .taken) _ (c .before .before .before .put-low .ensures))
-    (c .before .before .before .put-low .kept .1 .1 .0 ∙ part-length (c .before .before .before .before .before .before .before .before .before .args .gap + c .before .before .before .before .before .before .before .before .before .args .base) (c .before .before .before .before .before .before .before .before .before .args .table .now))
+-- each byte is a character
+string-at : (c : tie.Then1) → let a = c .before .before .before .before .args in Spellable (a .raw) (c .before .few-bytewise .result) (a .depth) (a .c .now) (a .base) (a .gap) (a .table .now)
+string-at c = spellable (c .before .before .before .before .pre .1) (c .before .few-bytewise .ensures) (raw-text _ _ _ (c .if1 .taken))
 
 add-result : tie.Need-add-result
-add-result c = omega (arith, count-few _ _ _ _ _ _ (c .before .before .before .before .before .before .before .before .before .before .before .before .args .table .now) (c .before .before .before .before .before .before .before .before .before .few-bytewise .ensures) (c .before .before .before .before .before .before .before .before .before .before .before .before .pre .1) (raw-text _ _ _ (c .before .before .before .before .before .before .before .before .if1 .taken)) _ _ (raw-put _ _ _ _ (words-fit _ _ _ _ _ _ (c .before .before .before .before .before .before .before .before .before .before .before .before .args .table .now) (c .before .before .before .before .before .before .before .before .before .few-bytewise .ensures) (c .before .before .before .before .before .before .before .before .before .before .before .before .pre .1) (raw-text _ _ _ (c .before .before .before .before .before .before .before .before .if1 .taken))) (c .before .before .before .before .before .before .before .before .if1 .taken) _ (c .before .before .before .before .before .before .put-low .ensures)))
-
-add-result-2 : tie.Need-add-result-2
-add-result-2 c = search needs
-
-same-length : tie.Need-same-length
-same-length c = search needs
+add-result c =
+    let b = c .before .before .before .before .before .before .before .before in
+    let x = string-at b in
+    omega (arith, count-few x (raw-put (words-fit x) (b .if1 .taken) (c .before .before .before .before .before .before .put-low .ensures)))
 
 returns : tie.Need-returns
 returns c =
-    string-put _ _ _ _ _ _ (c .before .before .before .before .before .before .before .before .before .before .before .before .args .table .now) (c .before .before .before .before .before .before .before .before .before .few-bytewise .ensures) (c .before .before .before .before .before .before .before .before .before .before .before .before .pre .1) (raw-text _ _ _ (c .before .before .before .before .before .before .before .before .if1 .taken)) _ _ (raw-put _ _ _ _ (words-fit _ _ _ _ _ _ (c .before .before .before .before .before .before .before .before .before .before .before .before .args .table .now) (c .before .before .before .before .before .before .before .before .before .few-bytewise .ensures) (c .before .before .before .before .before .before .before .before .before .before .before .before .pre .1) (raw-text _ _ _ (c .before .before .before .before .before .before .before .before .if1 .taken))) (c .before .before .before .before .before .before .before .before .if1 .taken) _ (c .before .before .before .before .before .before .put-low .ensures)) _ (c .before .before .put-row .ensures)
-
-put-string-requires : tie.Need-put-string-requires
-put-string-requires c κs = search needs
-
-same-length-2 : tie.Need-same-length-2
-same-length-2 c = search needs
-
-returns-2 : tie.Need-returns-2
-returns-2 c = c .before .before .put-string .ensures
+    let b = c .before .before .before .before .before .before .before .before in
+    let x = string-at b in
+    string-put x (raw-put (words-fit x) (b .if1 .taken) (c .before .before .before .before .before .before .put-low .ensures)) (c .before .before .put-row .ensures)
 
 pub put-few-spec : {M : Type 1} → statement M
 put-few-spec =
     tie.close
     (tie.spec
-    few-bytewise-requires
-    add-at
-    mul-put-low
-    sub-put-low
-    part-put-low-start
-    part-put-low-end
-    put-low-requires
-    put-row-requires
+    (λ c κs. search needs)  -- few-bytewise-requires
+    (λ c. omega (arith, words-at (string-at c)))  -- add-at
+    (λ c. omega (arith, words-at (string-at c)))  -- mul-put-low
+    (λ c. words-at (string-at c))  -- sub-put-low
+    (λ c. words-at (string-at c))  -- part-put-low-start
+    (λ c. search needs)  -- part-put-low-end
+    (λ c κs. raw-room (words-fit (string-at (c .before))) (c .before .if1 .taken))  -- put-low-requires
+    (λ c κs. row-room (string-at (c .before .before .before .before .before)) (c .before .before .before .put-low .last .1 .1 .0))  -- put-row-requires
     add-result
-    add-result-2
-    same-length
+    (λ c. search needs)  -- add-result-2
+    (λ c. search needs)  -- same-length
     returns
-    put-string-requires
-    same-length-2
-    returns-2)
+    (λ c κs. search needs)  -- put-string-requires
+    (λ c. search needs)  -- same-length-2
+    (λ c. c .before .before .put-string .ensures))  -- returns-2

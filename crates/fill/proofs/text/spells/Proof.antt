@@ -8,23 +8,14 @@ use borrow.Author.Needs.{needs}
 use Rattle.fill.proofs.text.spells.Statement.{statement}
 use Rattle.fill.proofs.text.spells.Tie as tie
 
-is-char-requires : tie.Need-is-char-requires
-is-char-requires c κs = search needs
-
 returns : tie.Need-returns
 unfolding spells either
 returns c = rw (lt-true _ _ (char-is _ _ (c .before .is-char .ensures) (c .if1 .taken))) refl
-
-is-padding-requires : tie.Need-is-padding-requires
-is-padding-requires c κs = search needs
 
 returns-2 : tie.Need-returns-2
 unfolding spells either
 returns-2 c =
     rw (lt-false _ _ (char-not _ _ (c .before .before .before .is-char .ensures) (c .before .before .if1 .left)), sym (c .before .is-padding .ensures) ∙ c .if2 .taken) refl
-
-is-repeat-requires : tie.Need-is-repeat-requires
-is-repeat-requires c κs = search needs
 
 returns-3 : tie.Need-returns-3
 unfolding spells either
@@ -37,4 +28,10 @@ returns-3 c =
 pub spells-spec : {M : Type 1} → statement M
 spells-spec =
     tie.close
-    (tie.spec is-char-requires returns is-padding-requires returns-2 is-repeat-requires returns-3)
+    (tie.spec
+    (λ c κs. search needs)  -- is-char-requires
+    returns
+    (λ c κs. search needs)  -- is-padding-requires
+    returns-2
+    (λ c κs. search needs)  -- is-repeat-requires
+    returns-3)

@@ -6,12 +6,6 @@ use borrow.Author.Needs.{needs}
 use Rattle.fill.proofs.tries.is_group.Statement.{statement}
 use Rattle.fill.proofs.tries.is_group.Tie as tie
 
-enum-told : tie.Need-enum-told
-enum-told c = search needs
-
-enum-told-2 : tie.Need-enum-told-2
-enum-told-2 c = search needs
-
 returns : tie.Need-returns
 unfolding isStruc
 returns c = sym (ap isStruc (c .enum-told .given .1))
@@ -24,4 +18,4 @@ returns-3 : tie.Need-returns-3
 returns-3 c = sym (other-wrap (c .before .args .w) (c .match .keys3))
 
 pub is-group-spec : {M : Type 1} → statement M
-is-group-spec = tie.close (tie.spec enum-told enum-told-2 returns returns-2 returns-3)
+is-group-spec = tie.close (tie.spec (λ c. search needs) (λ c. search needs) returns returns-2 returns-3)

@@ -5,12 +5,9 @@ use borrow.Author.Needs.{needs}
 use Rattle.format.proofs.fault.further.Statement.{statement}
 use Rattle.format.proofs.fault.further.Tie as tie
 
-add-t3 : tie.Need-add-t3
-add-t3 c = search needs
-
 returns : tie.Need-returns
 unfolding further
 returns c = refl
 
 pub further-spec : {M : Type 1} → statement M
-further-spec = tie.close (tie.spec add-t3 returns)
+further-spec = tie.close (tie.spec (λ c. search needs) returns)

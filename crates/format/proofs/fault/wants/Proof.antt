@@ -6,13 +6,10 @@ use borrow.Author.Needs.{needs}
 use Rattle.format.proofs.fault.wants.Statement.{statement}
 use Rattle.format.proofs.fault.wants.Tie as tie
 
-told-requires : tie.Need-told-requires
-told-requires c κs = search needs
-
 returns : tie.Need-returns
 returns c =
     let lacking : ℕ → Fault = λ k. record { number = c .before .args .number; place = 0; missing = k } in
     ap lacking (c .told .ensures)
 
 pub wants-spec : {M : Type 1} → statement M
-wants-spec = tie.close (tie.spec told-requires returns)
+wants-spec = tie.close (tie.spec (λ c κs. search needs) returns)

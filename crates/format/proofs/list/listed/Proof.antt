@@ -4,12 +4,9 @@ use Rattle.format.proofs.TreeLaws.{classes, listed-class}
 use Rattle.format.proofs.list.listed.Statement.{statement}
 use Rattle.format.proofs.list.listed.Tie as tie
 
-array-read-result : tie.Need-array-read-result
-array-read-result c = search needs
-
 returns : tie.Need-returns
 unfolding classes
 returns c = listed-class (c .args .b) (search needs)
 
 pub listed-spec : {M : Type 1} → statement M
-listed-spec = tie.close (tie.spec array-read-result returns)
+listed-spec = tie.close (tie.spec (λ c. search needs) returns)

@@ -5,17 +5,8 @@ use Rattle.format.proofs.SignedLaws.{to-signed, negative-fits, negative
 use Rattle.format.proofs.signed.value_of.Statement.{statement}
 use Rattle.format.proofs.signed.value_of.Tie as tie
 
-cast-result : tie.Need-cast-result
-cast-result c = search needs
-
 returns : tie.Need-returns
 returns c = to-signed (c .before .args .w) (omega arith)
-
-sub-result : tie.Need-sub-result
-sub-result c = search needs
-
-cast-result-2 : tie.Need-cast-result-2
-cast-result-2 c = search needs
 
 sub-result-2 : tie.Need-sub-result-2
 sub-result-2 c = negative-fits (c .before .args .w) (omega arith) (omega arith)
@@ -25,4 +16,11 @@ returns-2 c = negative-is (c .before .args .w) (omega arith) (omega arith)
 
 pub value-of-spec : {M : Type 1} → statement M
 value-of-spec =
-    tie.close (tie.spec cast-result returns sub-result cast-result-2 sub-result-2 returns-2)
+    tie.close
+    (tie.spec
+    (λ c. search needs)  -- cast-result
+    returns
+    (λ c. search needs)  -- sub-result
+    (λ c. search needs)  -- cast-result-2
+    sub-result-2
+    returns-2)

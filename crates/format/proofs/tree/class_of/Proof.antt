@@ -9,9 +9,6 @@ use Rattle.format.proofs.TreeLaws.{nonAtomic, treeAt, at-ones, at-low, 
 use Rattle.format.proofs.tree.class_of.Statement.{statement}
 use Rattle.format.proofs.tree.class_of.Tie as tie
 
-ones-of-requires : tie.Need-ones-of-requires
-ones-of-requires c κs = search needs
-
 returns : tie.Need-returns
 unfolding treeAt
 returns c = at-ones (c .before .before .args .b) (c .before .ones-of .result) 0 (search needs) (c .before .ones-of .ensures) (c .match .keys1)
@@ -88,7 +85,7 @@ pub class-of-spec : {M : Type 1} → statement M
 class-of-spec =
     tie.close
     (tie.spec
-    ones-of-requires
+    (λ c κs. search needs)  -- ones-of-requires
     returns
     returns-2
     returns-3

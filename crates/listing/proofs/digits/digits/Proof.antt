@@ -15,20 +15,14 @@ Inv-loop n x₀ k₀ x k = (k + length (decimal x) ≡ length (decimal n) + 1) �
 abbrev μ-loop : tie.MeasureT-loop
 μ-loop n x₀ k₀ x k = x
 
-loop-holds : tie.Need-loop-holds Inv-loop μ-loop
-loop-holds c = omega (arith, count-most 19 (c .args .n) (omega arith))
-
-add-k : tie.Need-add-k Inv-loop μ-loop
-add-k c = omega (arith, count-pos (c .before .loop .x))
-
-loop-less : tie.Need-loop-less Inv-loop μ-loop
-loop-less c = omega arith
-
-loop-again : tie.Need-loop-again Inv-loop μ-loop
-loop-again c = omega (arith, count-on (c .before .loop .x) (omega arith))
-
-returns : tie.Need-returns Inv-loop μ-loop
-returns c = omega (arith, count-one (c .before .loop .x) (omega arith))
-
 pub digits-spec : {M : Type 1} → statement M
-digits-spec = tie.close (tie.spec Inv-loop μ-loop loop-holds add-k loop-less loop-again returns)
+digits-spec =
+    tie.close
+    (tie.spec
+    Inv-loop
+    μ-loop
+    (λ c. omega (arith, count-most 19 (c .args .n) (omega arith)))  -- loop-holds
+    (λ c. omega (arith, count-pos (c .before .loop .x)))  -- add-k
+    (λ c. omega arith)  -- loop-less
+    (λ c. omega (arith, count-on (c .before .loop .x) (omega arith)))  -- loop-again
+    (λ c. omega (arith, count-one (c .before .loop .x) (omega arith))))  -- returns

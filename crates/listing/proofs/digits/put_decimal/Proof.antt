@@ -5,7 +5,7 @@ use mathlib.Core.Path.{_≡_, refl, sym, ap, _∙_}
 use native.Mathlib.Omega.{arith}
 use lib.ListN.{length, length-set}
 use Rattle.listing.specs.Lines.{decimal}
-use Rattle.listing.specs.Puts.{put}
+use Rattle.format.specs.Lent.{overAt}
 use Rattle.listing.proofs.Putting.{nothing}
 use Rattle.listing.proofs.Decimals.{lastDigits, all-digits, digit-turn}
 use Rattle.listing.proofs.digits.put_decimal.Statement.{statement}
@@ -13,16 +13,10 @@ use Rattle.listing.proofs.digits.put_decimal.Tie as tie
 
 abbrev Inv-loop : tie.InvT-loop
 Inv-loop out₀ at n end x₀ i₀ out x i =
-    (at ≤ i) × (i ≤ end) × (length out ≡ length out₀) × (end ≡ at + length (decimal n)) × (put at (decimal n) out₀ ≡ put at (lastDigits (i - at) x) out)
+    (at ≤ i) × (i ≤ end) × (length out ≡ length out₀) × (end ≡ at + length (decimal n)) × (overAt at (decimal n) out₀ ≡ overAt at (lastDigits (i - at) x) out)
 
 abbrev μ-loop : tie.MeasureT-loop
 μ-loop out₀ at n end x₀ i₀ out x i = i
-
-digits-requires : tie.Need-digits-requires Inv-loop μ-loop
-digits-requires c κs = omega arith
-
-add-end : tie.Need-add-end Inv-loop μ-loop
-add-end c = omega arith
 
 loop-holds : tie.Need-loop-holds Inv-loop μ-loop
 loop-holds c =
@@ -32,23 +26,8 @@ loop-holds c =
       omega arith,
       refl,
       omega (arith, c .digits .ensures),
-      rw e (ap (λ l. put (a .at) l (a .out .now)) (sym (all-digits (c .digits .result) (a .n) (c .digits .ensures)))),
+      rw e (ap (λ l. overAt (a .at) l (a .out .now)) (sym (all-digits (c .digits .result) (a .n) (c .digits .ensures)))),
     )
-
-sub-i : tie.Need-sub-i Inv-loop μ-loop
-sub-i c = omega arith
-
-add-out : tie.Need-add-out Inv-loop μ-loop
-add-out c = omega arith
-
-cast-out : tie.Need-cast-out Inv-loop μ-loop
-cast-out c = omega arith
-
-slice-write-out : tie.Need-slice-write-out Inv-loop μ-loop
-slice-write-out c = omega arith
-
-loop-less : tie.Need-loop-less Inv-loop μ-loop
-loop-less c = omega arith
 
 loop-again : tie.Need-loop-again Inv-loop μ-loop
 loop-again c =
@@ -56,16 +35,13 @@ loop-again c =
     let s = c .before .loop in
     (omega arith, omega arith, simp length-set (s .inv .2), s .inv .3, s .inv .4 ∙ digit-turn (a .at) (s .i) (s .x) (s .out) (omega arith) (omega arith))
 
-same-length : tie.Need-same-length Inv-loop μ-loop
-same-length c = c .before .loop .inv .2
-
 returns : tie.Need-returns Inv-loop μ-loop
 unfolding lastDigits
 returns c =
     let a = c .before .before .before .before .args in
     let s = c .before .loop in
     let z : s .i - a .at ≡ 0 = omega arith in
-    let p : put (a .at) (decimal (a .n)) (a .out .now) ≡ put (a .at) (lastDigits 0 (s .x)) (s .out) = rw z at (s .inv .4) in
+    let p : overAt (a .at) (decimal (a .n)) (a .out .now) ≡ overAt (a .at) (lastDigits 0 (s .x)) (s .out) = rw z at (s .inv .4) in
     record { room = omega arith; next = s .inv .3; is = nothing (a .at) (s .out) (omega arith) .is ∙ sym p }
 
 pub put-decimal-spec : {M : Type 1} → statement M
@@ -74,14 +50,14 @@ put-decimal-spec =
     (tie.spec
     Inv-loop
     μ-loop
-    digits-requires
-    add-end
+    (λ c κs. omega arith)  -- digits-requires
+    (λ c. omega arith)  -- add-end
     loop-holds
-    sub-i
-    add-out
-    cast-out
-    slice-write-out
-    loop-less
+    (λ c. omega arith)  -- sub-i
+    (λ c. omega arith)  -- add-out
+    (λ c. omega arith)  -- cast-out
+    (λ c. omega arith)  -- slice-write-out
+    (λ c. omega arith)  -- loop-less
     loop-again
-    same-length
+    (λ c. c .before .loop .inv .2)  -- same-length
     returns)

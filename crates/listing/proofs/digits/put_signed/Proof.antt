@@ -8,26 +8,8 @@ use Rattle.listing.proofs.Decimals.{signed-plus, signed-minus}
 use Rattle.listing.proofs.digits.put_signed.Statement.{statement}
 use Rattle.listing.proofs.digits.put_signed.Tie as tie
 
-put-decimal-requires : tie.Need-put-decimal-requires
-put-decimal-requires c κs = let e = ap length (signed-plus (c .before .before .before .args .v) (c .before .if1 .taken)) in omega arith
-
-same-length : tie.Need-same-length
-same-length c = search needs
-
 returns : tie.Need-returns
 returns c = rw (signed-plus (c .before .before .before .before .before .before .args .v) (c .before .before .before .before .if1 .taken)) (c .before .before .put-decimal .ensures)
-
-slice-write-out : tie.Need-slice-write-out
-slice-write-out c = let e = ap length (signed-minus (c .before .before .args .v) (c .if1 .left)) in omega arith
-
-add-put-decimal : tie.Need-add-put-decimal
-add-put-decimal c = search needs
-
-sub-put-decimal : tie.Need-sub-put-decimal
-sub-put-decimal c = search needs
-
-add-put-decimal-2 : tie.Need-add-put-decimal-2
-add-put-decimal-2 c = search needs
 
 put-decimal-requires-2 : tie.Need-put-decimal-requires-2
 put-decimal-requires-2 c κs = let e = ap length (signed-minus (c .before .before .before .args .v) (c .before .if1 .left)) in simp length-set (omega arith)
@@ -45,13 +27,13 @@ pub put-signed-spec : {M : Type 1} → statement M
 put-signed-spec =
     tie.close
     (tie.spec
-    put-decimal-requires
-    same-length
+    (λ c κs. let e = ap length (signed-plus (c .before .before .before .args .v) (c .before .if1 .taken)) in omega arith)  -- put-decimal-requires
+    (λ c. search needs)  -- same-length
     returns
-    slice-write-out
-    add-put-decimal
-    sub-put-decimal
-    add-put-decimal-2
+    (λ c. let e = ap length (signed-minus (c .before .before .args .v) (c .if1 .left)) in omega arith)  -- slice-write-out
+    (λ c. search needs)  -- add-put-decimal
+    (λ c. search needs)  -- sub-put-decimal
+    (λ c. search needs)  -- add-put-decimal-2
     put-decimal-requires-2
     same-length-2
     returns-2)

@@ -4,8 +4,8 @@ use mathlib.Core.Path.{_≡_, refl}
 use native.Mathlib.Omega.{arith}
 use lib.ListN.{drop, getD, length-set}
 use Rattle.format.specs.Tables.{codes}
-use Rattle.writer.specs.Rows.{aAt, bAt, textAt}
-use Rattle.writer.proofs.WordLaws.{text-kept}
+use Rattle.table.specs.Rows.{aAt, bAt, textAt}
+use Rattle.table.proofs.RowData.{text-kept}
 use Rattle.listing.specs.Lines.{codesColumn}
 use Rattle.listing.proofs.Putting.{Part, part-start, part-end, part-room}
 use Rattle.listing.proofs.CodeLines.{codes-number, code-in, code-at, codes-end, code-room, code-put}
@@ -19,42 +19,6 @@ Inv-loop table p out₀ at count first n₀ i₀ out n i =
 
 abbrev μ-loop : tie.MeasureT-loop
 μ-loop table p out₀ at count first n₀ i₀ out n i = count - i
-
-mul-count : tie.Need-mul-count Inv-loop μ-loop
-mul-count c = let r = c .before .before .pre .0 .row .within in omega arith
-
-add-count : tie.Need-add-count Inv-loop μ-loop
-add-count c = let r = c .before .before .pre .0 .row .within in omega arith
-
-mul-count-2 : tie.Need-mul-count-2 Inv-loop μ-loop
-mul-count-2 c = let r = c .before .before .pre .0 .row .within in omega arith
-
-shared-slice-read-count : tie.Need-shared-slice-read-count Inv-loop μ-loop
-shared-slice-read-count c = let r = c .before .before .before .pre .0 .row .within in omega arith
-
-shared-slice-read-first : tie.Need-shared-slice-read-first Inv-loop μ-loop
-shared-slice-read-first c = let r = c .before .before .before .before .pre .0 .row .within in omega arith
-
-mul-first : tie.Need-mul-first Inv-loop μ-loop
-mul-first c = let r = c .before .before .before .before .pre .0 .row .stored in omega arith
-
-add-first : tie.Need-add-first Inv-loop μ-loop
-add-first c = let r = c .before .before .before .before .pre .0 .row .stored in omega arith
-
-mul-first-2 : tie.Need-mul-first-2 Inv-loop μ-loop
-mul-first-2 c = let r = c .before .before .before .before .pre .0 .row .within in omega arith
-
-add-first-2 : tie.Need-add-first-2 Inv-loop μ-loop
-add-first-2 c = let r = c .before .before .before .before .pre .0 .row .within in omega arith
-
-mul-first-3 : tie.Need-mul-first-3 Inv-loop μ-loop
-mul-first-3 c = let r = c .before .before .before .before .pre .0 .row .within in omega arith
-
-shared-slice-read-first-2 : tie.Need-shared-slice-read-first-2 Inv-loop μ-loop
-shared-slice-read-first-2 c = let r = c .before .before .before .before .before .pre .0 .row .within in omega arith
-
-add-first-3 : tie.Need-add-first-3 Inv-loop μ-loop
-add-first-3 c = let r = c .before .before .before .before .before .pre .0 .row in let s = r .stored in let b = r .b in omega arith
 
 loop-holds : tie.Need-loop-holds Inv-loop μ-loop
 loop-holds c =
@@ -84,33 +48,29 @@ add-put-decimal c =
     let k = code-room _ (s .i) (omega arith) (c .before .before .before .before .before .before .before .before .before .pre .1) (s .inv .3) in
     omega arith
 
-code-of-requires : tie.Need-code-of-requires Inv-loop μ-loop
-code-of-requires c κs = omega arith
-
 put-decimal-requires : tie.Need-put-decimal-requires Inv-loop μ-loop
 put-decimal-requires c κs =
-    let a = c .before .before .before .before .before .before .before .before .before .before .args in
+    let b10 = c .before .before .before .before .before .before .before .before .before .before in
+    let a = b10 .args in
     let s = c .before .before .before .before .loop in
-    let n = codes-number _ _ (c .before .before .before .before .before .before .before .before .before .before .pre .0) in
-    let k = code-room _ (s .i) (omega arith) (c .before .before .before .before .before .before .before .before .before .before .pre .1) (s .inv .3) in
-    rw (c .code-of .ensures, s .inv .1, code-at (a .table .now) (a .p) (c .before .before .before .before .before .before .before .before .before .before .pre .0) (s .i) (omega arith)) (simp length-set (omega arith))
+    let n = codes-number _ _ (b10 .pre .0) in
+    let k = code-room _ (s .i) (omega arith) (b10 .pre .1) (s .inv .3) in
+    rw (c .code-of .ensures, s .inv .1, code-at (a .table .now) (a .p) (b10 .pre .0) (s .i) (omega arith)) (simp length-set (omega arith))
 
 add-i : tie.Need-add-i Inv-loop μ-loop
 add-i c = let k = text-kept _ _ (c .before .before .before .before .before .before .before .before .before .before .before .before .before .pre .0) .0 .small in omega arith
 
-loop-less : tie.Need-loop-less Inv-loop μ-loop
-loop-less c = omega arith
-
 loop-again : tie.Need-loop-again Inv-loop μ-loop
 loop-again c =
-    let a = c .before .before .before .before .before .before .before .before .before .before .before .before .before .args in
+    let b3 = c .before .before .before in let b13 = b3 .before .before .before .before .before .before .before .before .before .before in
+    let a = b13 .args in
     let s = c .before .before .before .before .before .before .before .loop in
-    let n = codes-number _ _ (c .before .before .before .before .before .before .before .before .before .before .before .before .before .pre .0) in (
+    let n = codes-number _ _ (b13 .pre .0) in (
       omega arith,
       s .inv .1,
       s .inv .2,
-      code-put (codes (textAt (a .table .now) (a .p))) (s .i) (omega arith) (c .before .before .before .before .before .before .before .before .before .before .before .before .before .pre .1) (s .inv .3)
-          (rw (c .before .before .before .code-of .ensures, s .inv .1, code-at (a .table .now) (a .p) (c .before .before .before .before .before .before .before .before .before .before .before .before .before .pre .0) (s .i) (omega arith)) at (c .before .before .put-decimal .ensures)),
+      code-put (codes (textAt (a .table .now) (a .p))) (s .i) (omega arith) (b13 .pre .1) (s .inv .3)
+          (rw (b3 .code-of .ensures, s .inv .1, code-at (a .table .now) (a .p) (b13 .pre .0) (s .i) (omega arith)) at (c .before .before .put-decimal .ensures)),
     )
 
 same-length : tie.Need-same-length Inv-loop μ-loop
@@ -128,28 +88,28 @@ put-codes-spec =
     (tie.spec
     Inv-loop
     μ-loop
-    mul-count
-    add-count
-    mul-count-2
-    shared-slice-read-count
-    shared-slice-read-first
-    mul-first
-    add-first
-    mul-first-2
-    add-first-2
-    mul-first-3
-    shared-slice-read-first-2
-    add-first-3
+    (λ c. let r = c .before .before .pre .0 .row .within in omega arith)  -- mul-count
+    (λ c. let r = c .before .before .pre .0 .row .within in omega arith)  -- add-count
+    (λ c. let r = c .before .before .pre .0 .row .within in omega arith)  -- mul-count-2
+    (λ c. let r = c .before .before .before .pre .0 .row .within in omega arith)  -- shared-slice-read-count
+    (λ c. let r = c .before .before .before .before .pre .0 .row .within in omega arith)  -- shared-slice-read-first
+    (λ c. let r = c .before .before .before .before .pre .0 .row .stored in omega arith)  -- mul-first
+    (λ c. let r = c .before .before .before .before .pre .0 .row .stored in omega arith)  -- add-first
+    (λ c. let r = c .before .before .before .before .pre .0 .row .within in omega arith)  -- mul-first-2
+    (λ c. let r = c .before .before .before .before .pre .0 .row .within in omega arith)  -- add-first-2
+    (λ c. let r = c .before .before .before .before .pre .0 .row .within in omega arith)  -- mul-first-3
+    (λ c. let r = c .before .before .before .before .before .pre .0 .row .within in omega arith)  -- shared-slice-read-first-2
+    (λ c. let r = c .before .before .before .before .before .pre .0 .row in let s = r .stored in let b = r .b in omega arith)  -- add-first-3
     loop-holds
     add-word
     mul-word
     shared-slice-read-word
     slice-write-out
     add-put-decimal
-    code-of-requires
+    (λ c κs. omega arith)  -- code-of-requires
     put-decimal-requires
     add-i
-    loop-less
+    (λ c. omega arith)  -- loop-less
     loop-again
     same-length
     returns)

@@ -13,18 +13,6 @@ put-decimal-requires c κs =
     let s = c .before .before .before in
     omega (arith, row-length (s .args .table .now) (s .args .p) (s .args .depth), s .pre .1)
 
-mul-put-word : tie.Need-mul-put-word
-mul-put-word c = search needs
-
-add-put-word : tie.Need-add-put-word
-add-put-word c = search needs
-
-mul-put-word-2 : tie.Need-mul-put-word-2
-mul-put-word-2 c = search needs
-
-shared-slice-read-put-word : tie.Need-shared-slice-read-put-word
-shared-slice-read-put-word c = search needs
-
 put-word-requires : tie.Need-put-word-requires
 put-word-requires c κs =
     let s = c .before .before .before .before .before .before .before .before in
@@ -40,32 +28,27 @@ slice-write-out c =
     let s = c .before .before .before .before .before .before .before .before .before .before .before .before .before .before .before in
     omega (arith, row-length (s .args .table .now) (s .args .p) (s .args .depth), s .pre .1)
 
-add-result : tie.Need-add-result
-add-result c = search needs
-
-same-length : tie.Need-same-length
-same-length c = simp length-set (omega arith)
-
 returns : tie.Need-returns
 unfolding rowText
 returns c =
+    let b6 = c .before .before .before .before .before .before in let b11 = b6 .before .before .before .before .before in
     let s = c .before .before .before .before .before .before .before .before .before .before .before .before .before .before .before in
     let v = c .before .before .put-value in
     let h = row-length (s .args .table .now) (s .args .p) (s .args .depth) in
-    then (c .before .before .before .before .before .before .before .before .before .before .before .put-decimal .ensures) (then (c .before .before .before .before .before .before .put-word .ensures) (then (v .ensures) (byte (v .result) 0x0a (v .last .1 .1 .0) (omega (arith, s .pre .1)))))
+    then (b11 .put-decimal .ensures) (then (b6 .put-word .ensures) (then (v .ensures) (byte (v .result) 0x0a (v .last .1 .1 .0) (omega (arith, s .pre .1)))))
 
 pub put-row-spec : {M : Type 1} → statement M
 put-row-spec =
     tie.close
     (tie.spec
     put-decimal-requires
-    mul-put-word
-    add-put-word
-    mul-put-word-2
-    shared-slice-read-put-word
+    (λ c. search needs)  -- mul-put-word
+    (λ c. search needs)  -- add-put-word
+    (λ c. search needs)  -- mul-put-word-2
+    (λ c. search needs)  -- shared-slice-read-put-word
     put-word-requires
     put-value-requires
     slice-write-out
-    add-result
-    same-length
+    (λ c. search needs)  -- add-result
+    (λ c. simp length-set (omega arith))  -- same-length
     returns)

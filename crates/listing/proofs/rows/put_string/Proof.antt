@@ -8,18 +8,6 @@ use Rattle.listing.proofs.CodeLines.{string-value}
 use Rattle.listing.proofs.rows.put_string.Statement.{statement}
 use Rattle.listing.proofs.rows.put_string.Tie as tie
 
-mul-put-decimal : tie.Need-mul-put-decimal
-mul-put-decimal c = search needs
-
-add-put-decimal : tie.Need-add-put-decimal
-add-put-decimal c = search needs
-
-mul-put-decimal-2 : tie.Need-mul-put-decimal-2
-mul-put-decimal-2 c = search needs
-
-shared-slice-read-put-decimal : tie.Need-shared-slice-read-put-decimal
-shared-slice-read-put-decimal c = search needs
-
 put-decimal-requires : tie.Need-put-decimal-requires
 put-decimal-requires c κs =
     let s = c .before .before .before .before .pre in
@@ -32,21 +20,20 @@ put-codes-requires c κs =
     let e = simp length-append at (ap length (string-value _ _ (s .0))) in
     (s .0, omega (arith, s .1, c .before .before .before .put-decimal .ensures .next))
 
-same-length : tie.Need-same-length
-same-length c = search needs
-
 returns : tie.Need-returns
-returns c = rw (string-value _ _ (c .before .before .before .before .before .before .before .before .before .before .before .pre .0)) (then (c .before .before .before .before .before .before .put-decimal .ensures) (c .before .before .put-codes .ensures))
+returns c =
+    let b6 = c .before .before .before .before .before .before in let b11 = b6 .before .before .before .before .before in
+    rw (string-value _ _ (b11 .pre .0)) (then (b6 .put-decimal .ensures) (c .before .before .put-codes .ensures))
 
 pub put-string-spec : {M : Type 1} → statement M
 put-string-spec =
     tie.close
     (tie.spec
-    mul-put-decimal
-    add-put-decimal
-    mul-put-decimal-2
-    shared-slice-read-put-decimal
+    (λ c. search needs)  -- mul-put-decimal
+    (λ c. search needs)  -- add-put-decimal
+    (λ c. search needs)  -- mul-put-decimal-2
+    (λ c. search needs)  -- shared-slice-read-put-decimal
     put-decimal-requires
     put-codes-requires
-    same-length
+    (λ c. search needs)  -- same-length
     returns)

@@ -8,41 +8,14 @@ use Rattle.listing.proofs.RowLines.{value-text, value-group, value-int,
 use Rattle.listing.proofs.rows.put_value.Statement.{statement}
 use Rattle.listing.proofs.rows.put_value.Tie as tie
 
-mul-kind : tie.Need-mul-kind
-mul-kind c = search needs
-
-add-kind : tie.Need-add-kind
-add-kind c = search needs
-
-mul-kind-2 : tie.Need-mul-kind-2
-mul-kind-2 c = search needs
-
-shared-slice-read-kind : tie.Need-shared-slice-read-kind
-shared-slice-read-kind c = search needs
-
 put-string-requires : tie.Need-put-string-requires
 put-string-requires c κs =
     let s = c .before .before .before .before .before .before in
     let e = ap length (value-text (s .args .table .now) (s .args .p) (c .before .if2 .taken)) in
     (s .pre .0 .text (c .before .if2 .taken), omega (arith, s .pre .1))
 
-same-length : tie.Need-same-length
-same-length c = search needs
-
 returns : tie.Need-returns
 returns c = rw (value-text _ _ (c .before .before .before .before .if2 .taken)) (c .before .before .put-string .ensures)
-
-mul-put-decimal : tie.Need-mul-put-decimal
-mul-put-decimal c = search needs
-
-add-put-decimal : tie.Need-add-put-decimal
-add-put-decimal c = search needs
-
-mul-put-decimal-2 : tie.Need-mul-put-decimal-2
-mul-put-decimal-2 c = search needs
-
-shared-slice-read-put-decimal : tie.Need-shared-slice-read-put-decimal
-shared-slice-read-put-decimal c = search needs
 
 put-decimal-requires : tie.Need-put-decimal-requires
 put-decimal-requires c κs =
@@ -50,32 +23,14 @@ put-decimal-requires c κs =
     let e = ap length (value-group (s .args .table .now) (s .args .p) (c .before .before .before .if1 .taken) (c .before .before .if2 .left)) in
     omega (arith, s .pre .1)
 
-same-length-2 : tie.Need-same-length-2
-same-length-2 c = search needs
-
 returns-2 : tie.Need-returns-2
 returns-2 c = rw (value-group _ _ (c .before .before .before .before .before .before .if1 .taken) (c .before .before .before .before .before .if2 .left)) (c .before .before .put-decimal .ensures)
-
-mul-b : tie.Need-mul-b
-mul-b c = search needs
-
-add-b : tie.Need-add-b
-add-b c = search needs
-
-mul-b-2 : tie.Need-mul-b-2
-mul-b-2 c = search needs
-
-shared-slice-read-b : tie.Need-shared-slice-read-b
-shared-slice-read-b c = search needs
 
 put-signed-requires : tie.Need-put-signed-requires
 put-signed-requires c κs =
     let s = c .before .before .before .before .before .before .before in
     let e = ap length (value-int (s .args .table .now) (s .args .p) (c .before .if3 .taken)) in
     omega (arith, s .pre .1)
-
-same-length-3 : tie.Need-same-length-3
-same-length-3 c = search needs
 
 returns-3 : tie.Need-returns-3
 returns-3 c = rw (value-int _ _ (c .before .before .before .before .if3 .taken)) (c .before .before .put-signed .ensures)
@@ -85,9 +40,6 @@ put-bits-requires c κs =
     let s = c .before .before .before .before .before .before .before .before in
     let e = ap length (value-leaf (s .args .table .now) (s .args .p) (c .before .before .before .before .if1 .left)) in
     ((s .pre .0 .leaf (omega arith), c .before .if4 .taken), omega (arith, s .pre .1))
-
-same-length-4 : tie.Need-same-length-4
-same-length-4 c = search needs
 
 returns-4 : tie.Need-returns-4
 returns-4 c = rw (value-leaf _ _ (c .before .before .before .before .before .before .before .if1 .left)) (c .before .before .put-bits .ensures)
@@ -99,45 +51,45 @@ returns-5 c =
 
 put-decimal-requires-2 : tie.Need-put-decimal-requires-2
 put-decimal-requires-2 c κs =
+    let b3 = c .before .before .before in let b5 = b3 .before .before in
     let s = c .before .before .before .before .before .before .before .before .before in
-    let e = ap length (value-plain (s .args .table .now) (s .args .p) (s .pre .0 .leaf (omega arith)) (c .before .before .before .before .before .if1 .left) (c .before .before .before .if3 .left) (c .before .before .if4 .left) (c .before .if5 .left)) in
+    let e = ap length (value-plain (s .args .table .now) (s .args .p) (s .pre .0 .leaf (omega arith)) (b5 .if1 .left) (b3 .if3 .left) (c .before .before .if4 .left) (c .before .if5 .left)) in
     omega (arith, s .pre .1)
 
-same-length-5 : tie.Need-same-length-5
-same-length-5 c = search needs
-
 returns-6 : tie.Need-returns-6
-returns-6 c = rw (value-plain _ _ (c .before .before .before .before .before .before .before .before .before .before .before .before .pre .0 .leaf (omega arith)) (c .before .before .before .before .before .before .before .before .if1 .left) (c .before .before .before .before .before .before .if3 .left) (c .before .before .before .before .before .if4 .left) (c .before .before .before .before .if5 .left)) (c .before .before .put-decimal2 .ensures)
+returns-6 c =
+    let b4 = c .before .before .before .before in let b5 = b4 .before in let b6 = b5 .before in let b8 = b6 .before .before in let b12 = b8 .before .before .before .before in
+    rw (value-plain _ _ (b12 .pre .0 .leaf (omega arith)) (b8 .if1 .left) (b6 .if3 .left) (b5 .if4 .left) (b4 .if5 .left)) (c .before .before .put-decimal2 .ensures)
 
 pub put-value-spec : {M : Type 1} → statement M
 put-value-spec =
     tie.close
     (tie.spec
-    mul-kind
-    add-kind
-    mul-kind-2
-    shared-slice-read-kind
+    (λ c. search needs)  -- mul-kind
+    (λ c. search needs)  -- add-kind
+    (λ c. search needs)  -- mul-kind-2
+    (λ c. search needs)  -- shared-slice-read-kind
     put-string-requires
-    same-length
+    (λ c. search needs)  -- same-length
     returns
-    mul-put-decimal
-    add-put-decimal
-    mul-put-decimal-2
-    shared-slice-read-put-decimal
+    (λ c. search needs)  -- mul-put-decimal
+    (λ c. search needs)  -- add-put-decimal
+    (λ c. search needs)  -- mul-put-decimal-2
+    (λ c. search needs)  -- shared-slice-read-put-decimal
     put-decimal-requires
-    same-length-2
+    (λ c. search needs)  -- same-length-2
     returns-2
-    mul-b
-    add-b
-    mul-b-2
-    shared-slice-read-b
+    (λ c. search needs)  -- mul-b
+    (λ c. search needs)  -- add-b
+    (λ c. search needs)  -- mul-b-2
+    (λ c. search needs)  -- shared-slice-read-b
     put-signed-requires
-    same-length-3
+    (λ c. search needs)  -- same-length-3
     returns-3
     put-bits-requires
-    same-length-4
+    (λ c. search needs)  -- same-length-4
     returns-4
     returns-5
     put-decimal-requires-2
-    same-length-5
+    (λ c. search needs)  -- same-length-5
     returns-6)

@@ -7,9 +7,6 @@ use borrow.Author.Needs.{needs}
 use Rattle.scan.proofs.closing.closed_by.Statement.{statement}
 use Rattle.scan.proofs.closing.closed_by.Tie as tie
 
-here-requires : tie.Need-here-requires
-here-requires c κs = search needs
-
 returns : tie.Need-returns
 unfolding closedBy
 returns c = ap Bad (c .here .ensures) ∙ sym (ifEq-no _ _ _ _ (c .before .if1 .taken))
@@ -19,4 +16,4 @@ unfolding closedBy
 returns-2 c = sym (ifEq-yes _ _ _ _ (c .if1 .left))
 
 pub closed-by-spec : {M : Type 1} → statement M
-closed-by-spec = tie.close (tie.spec here-requires returns returns-2)
+closed-by-spec = tie.close (tie.spec (λ c κs. search needs) returns returns-2)

@@ -4,15 +4,9 @@ use borrow.Author.Needs.{needs}
 use Rattle.scan.proofs.summary.bits_of.Statement.{statement}
 use Rattle.scan.proofs.summary.bits_of.Tie as tie
 
-add-one-of : tie.Need-add-one-of
-add-one-of c = search needs
-
-one-of-requires : tie.Need-one-of-requires
-one-of-requires c κs = search needs
-
 returns : tie.Need-returns
 unfolding wordsFor
 returns c = c .one-of .ensures
 
 pub bits-of-spec : {M : Type 1} → statement M
-bits-of-spec = tie.close (tie.spec add-one-of one-of-requires returns)
+bits-of-spec = tie.close (tie.spec (λ c. search needs) (λ c κs. search needs) returns)

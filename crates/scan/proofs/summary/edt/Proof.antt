@@ -3,11 +3,8 @@ use borrow.Author.Needs.{needs}
 use Rattle.scan.proofs.summary.edt.Statement.{statement}
 use Rattle.scan.proofs.summary.edt.Tie as tie
 
-group-requires : tie.Need-group-requires
-group-requires c κs = search needs
-
 returns : tie.Need-returns
-returns c = c .group .ensures
+returns c = c .container .ensures
 
 pub edt-spec : {M : Type 1} → statement M
-edt-spec = tie.close (tie.spec group-requires returns)
+edt-spec = tie.close (tie.spec (λ c κs. search needs) returns)

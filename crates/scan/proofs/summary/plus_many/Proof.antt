@@ -5,17 +5,8 @@ use borrow.Author.Needs.{needs}
 use Rattle.scan.proofs.summary.plus_many.Statement.{statement}
 use Rattle.scan.proofs.summary.plus_many.Tie as tie
 
-one-of-requires : tie.Need-one-of-requires
-one-of-requires c κs = search needs
-
-power-requires : tie.Need-power-requires
-power-requires c κs = search needs
-
-plus-requires : tie.Need-plus-requires
-plus-requires c κs = search needs
-
 returns : tie.Need-returns
 returns c = c .plus .ensures ∙ ap (plusOf _) (c .before .power .ensures ∙ ap (powerOf _) (c .before .before .one-of .ensures))
 
 pub plus-many-spec : {M : Type 1} → statement M
-plus-many-spec = tie.close (tie.spec one-of-requires power-requires plus-requires returns)
+plus-many-spec = tie.close (tie.spec (λ c κs. search needs) (λ c κs. search needs) (λ c κs. search needs) returns)

@@ -6,21 +6,9 @@ use borrow.Author.Needs.{needs}
 use Rattle.scan.proofs.summary.power.Statement.{statement}
 use Rattle.scan.proofs.summary.power.Tie as tie
 
-nothing-requires : tie.Need-nothing-requires
-nothing-requires c κs = search needs
-
 returns : tie.Need-returns
 unfolding powerOf
 returns c = c .nothing .ensures ∙ sym (ifEq-yes _ _ _ _ (c .before .if1 .taken))
-
-product-capped-requires : tie.Need-product-capped-requires
-product-capped-requires c κs = search needs
-
-product-capped-requires-2 : tie.Need-product-capped-requires-2
-product-capped-requires-2 c κs = search needs
-
-second-power-requires : tie.Need-second-power-requires
-second-power-requires c κs = search needs
 
 returns-2 : tie.Need-returns-2
 unfolding powerOf
@@ -30,9 +18,9 @@ pub power-spec : {M : Type 1} → statement M
 power-spec =
     tie.close
     (tie.spec
-    nothing-requires
+    (λ c κs. search needs)  -- nothing-requires
     returns
-    product-capped-requires
-    product-capped-requires-2
-    second-power-requires
+    (λ c κs. search needs)  -- product-capped-requires
+    (λ c κs. search needs)  -- product-capped-requires-2
+    (λ c κs. search needs)  -- second-power-requires
     returns-2)

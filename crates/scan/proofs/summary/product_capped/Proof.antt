@@ -7,12 +7,6 @@ use borrow.Author.Needs.{needs}
 use Rattle.scan.proofs.summary.product_capped.Statement.{statement}
 use Rattle.scan.proofs.summary.product_capped.Tie as tie
 
-capped-requires : tie.Need-capped-requires
-capped-requires c κs = search needs
-
-capped-requires-2 : tie.Need-capped-requires-2
-capped-requires-2 c κs = search needs
-
 mul-capped : tie.Need-mul-capped
 mul-capped c =
     let m = c .before .before .pre in
@@ -21,12 +15,15 @@ mul-capped c =
     let p : c .before .capped .result * c .capped2 .result ≤ 524288 * 524288 = mul-le-mul {n₂ = 524288} {m₂ = 524288} (omega (arith, m, a)) (omega (arith, m, b)) in
     omega arith
 
-capped-requires-3 : tie.Need-capped-requires-3
-capped-requires-3 c κs = search needs
-
 returns : tie.Need-returns
 returns c = c .capped3 .ensures ∙ rw (c .before .before .capped .ensures, c .before .capped2 .ensures) refl
 
 pub product-capped-spec : {M : Type 1} → statement M
 product-capped-spec =
-    tie.close (tie.spec capped-requires capped-requires-2 mul-capped capped-requires-3 returns)
+    tie.close
+    (tie.spec
+    (λ c κs. search needs)  -- capped-requires
+    (λ c κs. search needs)  -- capped-requires-2
+    mul-capped
+    (λ c κs. search needs)  -- capped-requires-3
+    returns)

@@ -10,12 +10,9 @@ returns : tie.Need-returns
 unfolding secondSum
 returns c = sym (ifEq-yes _ _ _ _ (c .if1 .taken))
 
-or-else-requires : tie.Need-or-else-requires
-or-else-requires c κs = search needs
-
 returns-2 : tie.Need-returns-2
 unfolding secondSum
 returns-2 c = c .or-else .ensures ∙ sym (ifEq-no _ _ _ _ (c .before .if1 .left))
 
 pub second-of-spec : {M : Type 1} → statement M
-second-of-spec = tie.close (tie.spec returns or-else-requires returns-2)
+second-of-spec = tie.close (tie.spec returns (λ c κs. search needs) returns-2)

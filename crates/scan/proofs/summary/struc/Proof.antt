@@ -7,28 +7,24 @@ use borrow.Author.Needs.{needs}
 use Rattle.scan.proofs.summary.struc.Statement.{statement}
 use Rattle.scan.proofs.summary.struc.Tie as tie
 
-struc-lead-requires : tie.Need-struc-lead-requires
-struc-lead-requires c κs = search needs
-
-capped-requires : tie.Need-capped-requires
-capped-requires c κs = search needs
-
-text-of-requires : tie.Need-text-of-requires
-text-of-requires c κs = omega (arith, c .capped .ensures)
-
 returns : tie.Need-returns
 unfolding strucOf
 returns c =
     c .text-of .ensures ∙ rw (c .before .capped .ensures) (sym (ifEq-yes _ _ _ _ (sym (c .before .before .before .struc-lead .ensures) ∙ c .before .before .if1 .taken)))
 
-group-requires : tie.Need-group-requires
-group-requires c κs = search needs
-
 returns-2 : tie.Need-returns-2
 unfolding strucOf
 returns-2 c =
     let e = c .before .before .struc-lead .ensures in
-    c .group .ensures ∙ rw e (sym (ifEq-no _ _ _ _ (λ z. c .before .if1 .left (e ∙ z))))
+    c .container .ensures ∙ rw e (sym (ifEq-no _ _ _ _ (λ z. c .before .if1 .left (e ∙ z))))
 
 pub struc-spec : {M : Type 1} → statement M
-struc-spec = tie.close (tie.spec struc-lead-requires capped-requires text-of-requires returns group-requires returns-2)
+struc-spec =
+    tie.close
+    (tie.spec
+    (λ c κs. search needs)  -- struc-lead-requires
+    (λ c κs. search needs)  -- capped-requires
+    (λ c κs. omega (arith, c .capped .ensures))  -- text-of-requires
+    returns
+    (λ c κs. search needs)  -- container-requires
+    returns-2)

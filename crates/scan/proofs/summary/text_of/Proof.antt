@@ -8,12 +8,6 @@ use borrow.Author.Needs.{needs}
 use Rattle.scan.proofs.summary.text_of.Statement.{statement}
 use Rattle.scan.proofs.summary.text_of.Tie as tie
 
-add-element : tie.Need-add-element
-add-element c = search needs
-
-element-requires : tie.Need-element-requires
-element-requires c κs = search needs
-
 returns : tie.Need-returns
 unfolding textOf wordsFor
 returns c =
@@ -22,4 +16,4 @@ returns c =
     c .element .ensures ∙ ap (elementOf 7 9 1) e
 
 pub text-of-spec : {M : Type 1} → statement M
-text-of-spec = tie.close (tie.spec add-element element-requires returns)
+text-of-spec = tie.close (tie.spec (λ c. search needs) (λ c κs. search needs) returns)

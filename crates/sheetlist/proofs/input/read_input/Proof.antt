@@ -43,36 +43,6 @@ Inv-loop fd buf₀ done₀ buf done = (done ≤ length buf) × (length buf ≡ l
 abbrev μ-loop : tie.MeasureT-loop
 μ-loop fd buf₀ done₀ buf done = length buf - done
 
-loop-holds : tie.Need-loop-holds Inv-loop μ-loop
-loop-holds c = search needs
-
-sub-read : tie.Need-sub-read Inv-loop μ-loop
-sub-read c = search needs
-
-part-read-start : tie.Need-part-read-start Inv-loop μ-loop
-part-read-start c = search needs
-
-part-read-end : tie.Need-part-read-end Inv-loop μ-loop
-part-read-end c = search needs
-
-read-requires : tie.Need-read-requires Inv-loop μ-loop
-read-requires c κs = search needs
-
-sub-step-of : tie.Need-sub-step-of Inv-loop μ-loop
-sub-step-of c = search needs
-
-part-step-of-start : tie.Need-part-step-of-start Inv-loop μ-loop
-part-step-of-start c = search needs
-
-part-step-of-end : tie.Need-part-step-of-end Inv-loop μ-loop
-part-step-of-end c = search needs
-
-step-of-requires : tie.Need-step-of-requires Inv-loop μ-loop
-step-of-requires c κs = search needs
-
-enum-known-step : tie.Need-enum-known-step Inv-loop μ-loop
-enum-known-step c = search needs
-
 loop-less : tie.Need-loop-less Inv-loop μ-loop
 loop-less c =
     let b = more-within _ _ _ _ (c .before .before .before .step-of .result) (c .before .before .before .step-of .ensures) (c .before .step .given .1) in search needs
@@ -81,21 +51,9 @@ loop-again : tie.Need-loop-again Inv-loop μ-loop
 loop-again c =
     let b = more-within _ _ _ _ (c .before .before .before .step-of .result) (c .before .before .before .step-of .ensures) (c .before .step .given .1) in search needs
 
-enum-known-step-2 : tie.Need-enum-known-step-2 Inv-loop μ-loop
-enum-known-step-2 c = search needs
-
-same-length : tie.Need-same-length Inv-loop μ-loop
-same-length c = search needs
-
 returns : tie.Need-returns Inv-loop μ-loop
 returns c =
     ends-within _ _ _ _ (c .before .before .before .step-of .result) (c .before .step2 .given .0 .0) (c .before .before .before .step-of .ensures) (c .before .step2 .given .1) (search needs)
-
-same-length-2 : tie.Need-same-length-2 Inv-loop μ-loop
-same-length-2 c = search needs
-
-returns-2 : tie.Need-returns-2 Inv-loop μ-loop
-returns-2 c = search needs
 
 pub read-input-spec : {M : Type 1} → statement M
 read-input-spec =
@@ -103,20 +61,20 @@ read-input-spec =
     (tie.spec
     Inv-loop
     μ-loop
-    loop-holds
-    sub-read
-    part-read-start
-    part-read-end
-    read-requires
-    sub-step-of
-    part-step-of-start
-    part-step-of-end
-    step-of-requires
-    enum-known-step
+    (λ c. search needs)  -- loop-holds
+    (λ c. search needs)  -- sub-read
+    (λ c. search needs)  -- part-read-start
+    (λ c. search needs)  -- part-read-end
+    (λ c κs. search needs)  -- read-requires
+    (λ c. search needs)  -- sub-step-of
+    (λ c. search needs)  -- part-step-of-start
+    (λ c. search needs)  -- part-step-of-end
+    (λ c κs. search needs)  -- step-of-requires
+    (λ c. search needs)  -- enum-known-step
     loop-less
     loop-again
-    enum-known-step-2
-    same-length
+    (λ c. search needs)  -- enum-known-step-2
+    (λ c. search needs)  -- same-length
     returns
-    same-length-2
-    returns-2)
+    (λ c. search needs)  -- same-length-2
+    (λ c. search needs))  -- returns-2

@@ -47,18 +47,12 @@ returns c =
     let a = c .before .before .args in
     failed (a .done) (length (a .lent .now)) _ (a .got) (found-negative (a .got) (c .before .before .fits .got) (c .if1 .taken))
 
-count-requires : tie.Need-count-requires
-count-requires c κs = search needs
-
 returns-2 : tie.Need-returns-2
 returns-2 c =
     let a = c .before .before .before .before .args in
     let r = c .before .count in
     none-came (a .done) (r .result) (c .if2 .taken)
     ∙ came-is (a .done) (length (a .lent .now)) (r .result) (a .got) (c .before .before .before .before .fits .got) (c .before .before .if1 .left) (r .ensures .1)
-
-add-t8 : tie.Need-add-t8
-add-t8 c = search needs
 
 returns-3 : tie.Need-returns-3
 returns-3 c =
@@ -68,4 +62,4 @@ returns-3 c =
     ∙ came-is (a .done) (length (a .lent .now)) (r .result) (a .got) (c .before .before .before .before .fits .got) (c .before .before .if1 .left) (r .ensures .1)
 
 pub step-of-spec : {M : Type 1} → statement M
-step-of-spec = tie.close (tie.spec returns count-requires returns-2 add-t8 returns-3)
+step-of-spec = tie.close (tie.spec returns (λ c κs. search needs) returns-2 (λ c. search needs) returns-3)

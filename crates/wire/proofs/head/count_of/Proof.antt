@@ -10,33 +10,15 @@ use Rattle.format.specs.Refusals.{further}
 use Rattle.format.specs.Objects.{found}
 use Rattle.format.proofs.SignedLaws.{found-negative, found-natural, kept, cast-mag}
 use Rattle.wire.specs.Heads.{LeadingIs}
-use Rattle.wire.proofs.HeadLaws.{count-absent, count-short, count-negative, count-right}
+use Rattle.wire.proofs.HeadLaws.{count-absent, count-cut, count-negative, count-right}
 use borrow.Author.Needs.{needs}
 use Rattle.wire.proofs.head.count_of.Statement.{statement}
 use Rattle.wire.proofs.head.count_of.Tie as tie
-
-leading-of-requires : tie.Need-leading-of-requires
-leading-of-requires c κs = search needs
-
-enum-told : tie.Need-enum-told
-enum-told c = search needs
-
-here-requires : tie.Need-here-requires
-here-requires c κs = search needs
-
-enum-known-l : tie.Need-enum-known-l
-enum-known-l c = search needs
-
-add-further : tie.Need-add-further
-add-further c = search needs
 
 add-further-2 : tie.Need-add-further-2
 add-further-2 c =
     let r = subst (LeadingIs (c .before .before .before .before .before .args .c .now)) (c .before .l .given .1) (c .before .before .before .leading-of .ensures) in
     omega (arith, r .1)
-
-wants-requires : tie.Need-wants-requires
-wants-requires c κs = search needs
 
 further-requires : tie.Need-further-requires
 further-requires c κs =
@@ -44,12 +26,6 @@ further-requires c κs =
     let r = subst (LeadingIs (a .c .now)) (c .before .before .l .given .1) (c .before .before .before .before .leading-of .ensures) in
     let z : c .wants .result .place ≡ 0 = ap (λ (f : Fault). f .place) (c .wants .ensures) in
     omega (arith, r .1)
-
-enum-known-l-2 : tie.Need-enum-known-l-2
-enum-known-l-2 c = search needs
-
-here-requires-2 : tie.Need-here-requires-2
-here-requires-2 c κs = search needs
 
 cast-t17 : tie.Need-cast-t17
 cast-t17 c =
@@ -77,7 +53,7 @@ returns-3 c =
     let a = c .before .before .before .before .before .before .before .args in
     let l = c .before .before .before .l .given in
     let r = subst (LeadingIs (a .c .now)) (l .1) (c .before .before .before .before .before .leading-of .ensures) in
-    count-short (a .why) (a .h) (l .0 .0) (l .0 .1 .0) (a .c .now) (c .further .result) (c .further .ensures ∙ ap (further (1 + a .h + l .0 .0)) (c .before .wants .ensures)) (r .0)
+    count-cut (a .why) (a .h) (l .0 .0) (l .0 .1 .0) (a .c .now) (c .further .result) (c .further .ensures ∙ ap (further (1 + a .h + l .0 .0)) (c .before .wants .ensures)) (r .0)
 
 returns-4 : tie.Need-returns-4
 returns-4 c =
@@ -92,16 +68,16 @@ pub count-of-spec : {M : Type 1} → statement M
 count-of-spec =
     tie.close
     (tie.spec
-    leading-of-requires
-    enum-told
-    here-requires
-    enum-known-l
-    add-further
+    (λ c κs. search needs)  -- leading-of-requires
+    (λ c. search needs)  -- enum-told
+    (λ c κs. search needs)  -- here-requires
+    (λ c. search needs)  -- enum-known-l
+    (λ c. search needs)  -- add-further
     add-further-2
-    wants-requires
+    (λ c κs. search needs)  -- wants-requires
     further-requires
-    enum-known-l-2
-    here-requires-2
+    (λ c. search needs)  -- enum-known-l-2
+    (λ c κs. search needs)  -- here-requires-2
     returns
     cast-t17
     returns-2

@@ -8,15 +8,9 @@ use borrow.Author.Needs.{needs}
 use Rattle.wire.proofs.integer.following_of.Statement.{statement}
 use Rattle.wire.proofs.integer.following_of.Tie as tie
 
-add-result : tie.Need-add-result
-add-result c = search needs
-
-add-result-2 : tie.Need-add-result-2
-add-result-2 c = search needs
-
 returns : tie.Need-returns
 unfolding following
 returns c = (byEq (λ n. (c .args .b + 7) % 8 + 1 ≡ n) (c .args .b % 8) 0 (λ e. omega arith) (λ e. omega arith), omega arith, omega arith)
 
 pub following-of-spec : {M : Type 1} → statement M
-following-of-spec = tie.close (tie.spec add-result add-result-2 returns)
+following-of-spec = tie.close (tie.spec (λ c. search needs) (λ c. search needs) returns)

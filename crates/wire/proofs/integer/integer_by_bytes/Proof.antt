@@ -6,21 +6,6 @@ use borrow.Author.Needs.{needs}
 use Rattle.wire.proofs.integer.integer_by_bytes.Statement.{statement}
 use Rattle.wire.proofs.integer.integer_by_bytes.Tie as tie
 
-number-by-bytes-requires : tie.Need-number-by-bytes-requires
-number-by-bytes-requires c κs = search needs
-
-mul-signed-high : tie.Need-mul-signed-high
-mul-signed-high c = search needs
-
-sub-signed-high : tie.Need-sub-signed-high
-sub-signed-high c = search needs
-
-shl-signed-high : tie.Need-shl-signed-high
-shl-signed-high c = search needs
-
-signed-high-requires : tie.Need-signed-high-requires
-signed-high-requires c κs = search needs
-
 returns : tie.Need-returns
 returns c =
     let a = c .before .before .before .args in
@@ -32,9 +17,9 @@ pub integer-by-bytes-spec : {M : Type 1} → statement M
 integer-by-bytes-spec =
     tie.close
     (tie.spec
-    number-by-bytes-requires
-    mul-signed-high
-    sub-signed-high
-    shl-signed-high
-    signed-high-requires
+    (λ c κs. search needs)  -- number-by-bytes-requires
+    (λ c. search needs)  -- mul-signed-high
+    (λ c. search needs)  -- sub-signed-high
+    (λ c. search needs)  -- shl-signed-high
+    (λ c κs. search needs)  -- signed-high-requires
     returns)

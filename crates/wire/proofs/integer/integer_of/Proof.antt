@@ -6,25 +6,23 @@ use borrow.Author.Needs.{needs}
 use Rattle.wire.proofs.integer.integer_of.Statement.{statement}
 use Rattle.wire.proofs.integer.integer_of.Tie as tie
 
+-- eight bytes are there
 word-at-requires : tie.Need-word-at-requires
 word-at-requires c κs = search needs
-
-signed-high-requires : tie.Need-signed-high-requires
-signed-high-requires c κs = search needs
 
 returns : tie.Need-returns
 returns c =
     let a = c .before .before .before .before .args in
-    let n = number-high (a .s .now) (a .k) (c .before .word-at .result) (λ i. omega (arith, c .before .before .before .shared-slice-known .given i)) (omega arith) (omega arith) (omega arith) (c .before .word-at .ensures) in
+    let w = c .before .word-at in
+    let n = number-high (a .s .now) (a .k) (w .result) (λ i. omega (arith, c .before .before .before .shared-slice-known .given i)) (omega arith) (omega arith) (omega arith) (w .ensures) in
     integer-is (a .s .now) (a .k) _ (c .signed-high .result) (c .signed-high .ok) (omega arith) (n .0) (c .signed-high .ensures)
-
-integer-by-bytes-requires : tie.Need-integer-by-bytes-requires
-integer-by-bytes-requires c κs = search needs
-
-returns-2 : tie.Need-returns-2
-returns-2 c = search needs
 
 pub integer-of-spec : {M : Type 1} → statement M
 integer-of-spec =
     tie.close
-    (tie.spec word-at-requires signed-high-requires returns integer-by-bytes-requires returns-2)
+    (tie.spec
+    word-at-requires
+    (λ c κs. search needs)  -- signed-high-requires
+    returns
+    (λ c κs. search needs)  -- integer-by-bytes-requires
+    (λ c. search needs))  -- returns-2

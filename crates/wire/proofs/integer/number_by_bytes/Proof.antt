@@ -30,25 +30,14 @@ loop-holds c = (omega arith, omega arith, unfold val in refl)
 mul-n : tie.Need-mul-n Inv-loop μ-loop
 mul-n c = omega (arith, pow-le {i = c .before .loop .i} {j = 7} (omega arith))
 
-shared-slice-read-wide : tie.Need-shared-slice-read-wide Inv-loop μ-loop
-shared-slice-read-wide c = omega arith
-
-wide-requires : tie.Need-wide-requires Inv-loop μ-loop
-wide-requires c κs = tt
-
 add-n : tie.Need-add-n Inv-loop μ-loop
 add-n c = omega (arith, pow-le {i = c .before .before .before .loop .i} {j = 7} (omega arith))
 
-add-i : tie.Need-add-i Inv-loop μ-loop
-add-i c = omega arith
-
-loop-less : tie.Need-loop-less Inv-loop μ-loop
-loop-less c = omega arith
-
 loop-again : tie.Need-loop-again Inv-loop μ-loop
 loop-again c =
-    step (c .before .before .before .before .before .args .s .now) (c .before .before .before .loop .i) (c .before .before .before .loop .n) (c .wide .result) (c .before .before .before .before .before .args .k) (omega arith) (omega arith) (c .before .before .before .loop .inv .1) (c .before .before .before .loop .inv .2)
-    (c .wide .ensures .0) (c .wide .ensures .1)
+    let a = c .before .before .before .before .before .args in
+    let l = c .before .before .before .loop in
+    step (a .s .now) (l .i) (l .n) (c .wide .result) (a .k) (omega arith) (omega arith) (l .inv .1) (l .inv .2) (c .wide .ensures .0) (c .wide .ensures .1)
 
 returns : tie.Need-returns Inv-loop μ-loop
 returns c =
@@ -63,10 +52,10 @@ number-by-bytes-spec =
     μ-loop
     loop-holds
     mul-n
-    shared-slice-read-wide
-    wide-requires
+    (λ c. omega arith)  -- shared-slice-read-wide
+    (λ c κs. tt)  -- wide-requires
     add-n
-    add-i
-    loop-less
+    (λ c. omega arith)  -- add-i
+    (λ c. omega arith)  -- loop-less
     loop-again
     returns)

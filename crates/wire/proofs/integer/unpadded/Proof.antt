@@ -4,13 +4,13 @@ use mathlib.Core.Path.{_≡_}
 use native.Mathlib.Omega.{arith}
 use lib.ListN.{length, drop}
 use Rattle.format.specs.Objects.{leading}
-use Rattle.wire.specs.Heads.{ahead}
+use Rattle.wire.specs.Heads.{onward}
 use Rattle.wire.proofs.Leadings.{skip-none, skip-one}
 use Rattle.wire.proofs.integer.unpadded.Statement.{statement}
 use Rattle.wire.proofs.integer.unpadded.Tie as tie
 
 abbrev Inv-loop : tie.InvT-loop
-Inv-loop s i₀ i = (i ≤ length s) × (leading s ≡ ahead i (leading (drop i s)))
+Inv-loop s i₀ i = (i ≤ length s) × (leading s ≡ onward i (leading (drop i s)))
 
 abbrev μ-loop : tie.MeasureT-loop
 μ-loop s i₀ i = length s - i
@@ -18,17 +18,8 @@ abbrev μ-loop : tie.MeasureT-loop
 loop-holds : tie.Need-loop-holds Inv-loop μ-loop
 loop-holds c = (omega arith, skip-none (c .args .s .now))
 
-shared-slice-read-if1 : tie.Need-shared-slice-read-if1 Inv-loop μ-loop
-shared-slice-read-if1 c = omega arith
-
 returns : tie.Need-returns Inv-loop μ-loop
 returns c = record { within = omega arith; skipped = c .before .before .before .loop .inv .1; there = λ h. c .if1 .taken }
-
-add-i : tie.Need-add-i Inv-loop μ-loop
-add-i c = omega arith
-
-loop-less : tie.Need-loop-less Inv-loop μ-loop
-loop-less c = omega arith
 
 loop-again : tie.Need-loop-again Inv-loop μ-loop
 loop-again c = (omega arith, skip-one (c .before .before .before .before .args .s .now) (c .before .before .before .loop .i) (omega arith) (c .if1 .left) (c .before .before .before .loop .inv .1))
@@ -43,9 +34,9 @@ unpadded-spec =
     Inv-loop
     μ-loop
     loop-holds
-    shared-slice-read-if1
+    (λ c. omega arith)  -- shared-slice-read-if1
     returns
-    add-i
-    loop-less
+    (λ c. omega arith)  -- add-i
+    (λ c. omega arith)  -- loop-less
     loop-again
     returns-2)

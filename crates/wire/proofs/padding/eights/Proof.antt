@@ -1,49 +1,29 @@
--- The loop's invariant: up to e every byte from i on is padding. Assumes nothing.
+-- `padding::eights` meets its contract: up to e every byte from i on is padding. Assumes nothing.
 use native.Mathlib.Omega.{arith}
-use native.Mathlib.Nat.{le-refl}
-use mathlib.Core.Path.{_∙_, sym}
-use Prim.Native.Nat.{_+_, _-_, _≤_}
+use Prim.Native.Nat.{_+_, _-_}
 use lib.ListN.{length}
-use Rattle.wire.specs.Ranges.{Between}
-use Rattle.wire.proofs.Ranges.{between-none, between-join}
+use Rattle.wire.specs.Ranges.{Ranged}
+use Rattle.wire.proofs.Ranges.{ranged-none, ranged-join}
 use Rattle.wire.proofs.WordLaws.{all-ones}
--- x Assumes nothing.
 use borrow.Author.Needs.{needs}
 use Rattle.wire.proofs.padding.eights.Statement.{statement}
 use Rattle.wire.proofs.padding.eights.Tie as tie
 
 abbrev Inv-loop : tie.InvT-loop
-Inv-loop s i e₀ e = (i ≤ e) × (e ≤ length s) × Between 0xff 0xff i e s
+Inv-loop s i e₀ e = Ranged 0xff 0xff i e s
 
 abbrev μ-loop : tie.MeasureT-loop
 μ-loop s i e₀ e = length s - e
 
 loop-holds : tie.Need-loop-holds Inv-loop μ-loop
-loop-holds c = (le-refl _, c .before .pre, between-none _ _ _ (c .before .args .s .now))
-
-sub-loop : tie.Need-sub-loop Inv-loop μ-loop
-sub-loop c = search needs
-
-word-at-requires : tie.Need-word-at-requires Inv-loop μ-loop
-word-at-requires c κs = search needs
-
-returns : tie.Need-returns Inv-loop μ-loop
-returns c = c .before .before .before .loop .inv
-
-add-e : tie.Need-add-e Inv-loop μ-loop
-add-e c = search needs
-
-loop-less : tie.Need-loop-less Inv-loop μ-loop
-loop-less c = search needs
+loop-holds c = ranged-none _ _ _ (c .before .args .s .now) (c .before .pre)
 
 loop-again : tie.Need-loop-again Inv-loop μ-loop
 loop-again c =
     let s = c .before .before .before .before .before .args .s .now in
     let e = c .before .before .before .loop .e in
-    (omega arith, omega arith, between-join 0xff 0xff _ e (e + 8) s (c .before .before .before .loop .inv .2) (all-ones s e (λ i. omega (arith, c .before .before .before .before .shared-slice-known .given i)) (omega arith)))
-
-returns-2 : tie.Need-returns-2 Inv-loop μ-loop
-returns-2 c = c .before .loop .inv
+    let m = all-ones s e (λ i. omega (arith, c .before .before .before .before .shared-slice-known .given i)) (omega arith) in
+    ranged-join 0xff 0xff _ e (e + 8) s (c .before .before .before .loop .inv) (omega arith) (omega arith) m
 
 pub eights-spec : {M : Type 1} → statement M
 eights-spec =
@@ -52,10 +32,10 @@ eights-spec =
     Inv-loop
     μ-loop
     loop-holds
-    sub-loop
-    word-at-requires
-    returns
-    add-e
-    loop-less
+    (λ c. search needs)  -- sub-loop
+    (λ c κs. search needs)  -- word-at-requires
+    (λ c. c .before .before .before .loop .inv)  -- returns
+    (λ c. search needs)  -- add-e
+    (λ c. search needs)  -- loop-less
     loop-again
-    returns-2)
+    (λ c. c .before .loop .inv))  -- returns-2

@@ -1,25 +1,15 @@
 -- `short::is_ustruc` tells the byte by its class. Assumes nothing.
-use mathlib.Core.Path.{sym, ap, _∙_}
-use mathlib.Core.List.{[], _∷_}
-use Rattle.format.specs.declared.Class.the-variants as C
-use Rattle.format.specs.Classes.{classOf}
-use Rattle.wire.proofs.ClassCases.{apart, told, told-not}
+use native.Mathlib.Omega.{arith}
+use Rattle.wire.proofs.ClassCases.{class-told, class-not, ustruc-tells}
 use borrow.Author.Needs.{needs}
 use Rattle.wire.proofs.short.is_ustruc.Statement.{statement}
 use Rattle.wire.proofs.short.is_ustruc.Tie as tie
 
-class-of-requires : tie.Need-class-of-requires
-class-of-requires c κs = search needs
-
-enum-told : tie.Need-enum-told
-enum-told c = search needs
-
-returns : tie.Need-returns
-returns c = told C.Ustruc (c .before .before .before .args .b) (c .before .before .before .args .b) 0xc5 (λ e. e) (sym (c .enum-told .given .1) ∙ c .before .before .class-of .ensures)
-
-returns-2 : tie.Need-returns-2
-unfolding classOf
-returns-2 c = told-not C.Ustruc (c .before .class-of .result) (c .before .before .args .b) (c .before .before .args .b) 0xc5 (ap classOf) (apart (C.Ustruc ∷ []) _ C.Ustruc tt (c .match .keys2)) (c .before .class-of .ensures)
-
 pub is-ustruc-spec : {M : Type 1} → statement M
-is-ustruc-spec = tie.close (tie.spec class-of-requires enum-told returns returns-2)
+is-ustruc-spec =
+    tie.close
+    (tie.spec
+    (λ c κs. search needs)  -- class-of-requires
+    (λ c. search needs)  -- enum-told
+    (λ c. class-told ustruc-tells _ _ (c .before .before .class-of .ensures) (omega arith) (c .enum-told .given .1))  -- returns
+    (λ c. class-not ustruc-tells _ _ (c .before .class-of .ensures) (c .match .keys2)))  -- returns-2

@@ -9,12 +9,6 @@ use borrow.Author.Needs.{needs}
 use Rattle.wire.proofs.size.extent_at.Statement.{statement}
 use Rattle.wire.proofs.size.extent_at.Tie as tie
 
-sub-there : tie.Need-sub-there
-sub-there c = search needs
-
-sub-t7 : tie.Need-sub-t7
-sub-t7 c = search needs
-
 returns : tie.Need-returns
 unfolding extentAt
 returns c = sym (ifLt-yes _ _ _ _ (c .if1 .taken))
@@ -24,4 +18,4 @@ unfolding extentAt
 returns-2 c = sym (ifLt-no (length (c .before .args .s .now) - c .before .args .h) (c .before .args .n) _ _ (omega arith))
 
 pub extent-at-spec : {M : Type 1} → statement M
-extent-at-spec = tie.close (tie.spec sub-there sub-t7 returns returns-2)
+extent-at-spec = tie.close (tie.spec (λ c. search needs) (λ c. search needs) returns returns-2)

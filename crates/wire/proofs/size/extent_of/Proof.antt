@@ -13,23 +13,11 @@ use Rattle.wire.proofs.size.extent_of.Tie as tie
 returns : tie.Need-returns
 returns c = extent-cut (c .before .before .args .s .now) 1 (size-none (c .before .before .args .s .now) (omega arith))
 
-shared-slice-read-b : tie.Need-shared-slice-read-b
-shared-slice-read-b c = search needs
-
-extent-at-requires : tie.Need-extent-at-requires
-extent-at-requires c κs = search needs
-
 returns-2 : tie.Need-returns-2
 returns-2 c =
     let s = c .before .before .before .before .before .args .s .now in
     subst (ExtentIs s) (sym (c .extent-at .ensures))
     (extent-is s 1 128 128 (size-zero s (omega arith) (c .before .if2 .taken)) refl (omega arith) (omega arith))
-
-wide-requires : tie.Need-wide-requires
-wide-requires c κs = search needs
-
-extent-at-requires-2 : tie.Need-extent-at-requires-2
-extent-at-requires-2 c κs = search needs
 
 returns-3 : tie.Need-returns-3
 returns-3 c =
@@ -38,28 +26,10 @@ returns-3 c =
     subst (ExtentIs s) (sym (c .extent-at2 .ensures))
     (extent-is s 1 (lib.ListN.getD s 0 0) (c .before .wide .result) (size-short s (omega arith) (c .before .before .if3 .taken) (c .before .before .before .if2 .left)) e (omega arith) (omega arith))
 
-long-count-requires : tie.Need-long-count-requires
-long-count-requires c κs = search needs
-
-sub-there : tie.Need-sub-there
-sub-there c = search needs
-
-sub-t11 : tie.Need-sub-t11
-sub-t11 c = search needs
-
 returns-4 : tie.Need-returns-4
 returns-4 c =
     let s = c .before .before .before .before .before .before .before .args .s .now in
     extent-cut s (c .before .long-count .result - (length s - 1)) (size-long-cut s (c .before .long-count .result) (omega arith) (omega arith) (c .before .long-count .ensures) (omega arith))
-
-long-size-requires : tie.Need-long-size-requires
-long-size-requires c κs = search needs
-
-add-extent-at : tie.Need-add-extent-at
-add-extent-at c = search needs
-
-extent-at-requires-3 : tie.Need-extent-at-requires-3
-extent-at-requires-3 c κs = search needs
 
 returns-5 : tie.Need-returns-5
 returns-5 c =
@@ -74,17 +44,17 @@ extent-of-spec =
     tie.close
     (tie.spec
     returns
-    shared-slice-read-b
-    extent-at-requires
+    (λ c. search needs)  -- shared-slice-read-b
+    (λ c κs. search needs)  -- extent-at-requires
     returns-2
-    wide-requires
-    extent-at-requires-2
+    (λ c κs. search needs)  -- wide-requires
+    (λ c κs. search needs)  -- extent-at-requires-2
     returns-3
-    long-count-requires
-    sub-there
-    sub-t11
+    (λ c κs. search needs)  -- long-count-requires
+    (λ c. search needs)  -- sub-there
+    (λ c. search needs)  -- sub-t11
     returns-4
-    long-size-requires
-    add-extent-at
-    extent-at-requires-3
+    (λ c κs. search needs)  -- long-size-requires
+    (λ c. search needs)  -- add-extent-at
+    (λ c κs. search needs)  -- extent-at-requires-3
     returns-5)

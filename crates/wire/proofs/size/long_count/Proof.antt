@@ -11,15 +11,9 @@ returns : tie.Need-returns
 unfolding longCount
 returns c = sym (ifEq-yes _ _ _ _ (c .if1 .taken))
 
-wide-requires : tie.Need-wide-requires
-wide-requires c κs = search needs
-
-sub-result : tie.Need-sub-result
-sub-result c = search needs
-
 returns-2 : tie.Need-returns-2
 unfolding longCount
 returns-2 c = ap (λ n. n - 128) (c .wide .ensures .0) ∙ sym (ifEq-no _ _ _ _ (c .before .if1 .left))
 
 pub long-count-spec : {M : Type 1} → statement M
-long-count-spec = tie.close (tie.spec returns wide-requires sub-result returns-2)
+long-count-spec = tie.close (tie.spec returns (λ c κs. search needs) (λ c. search needs) returns-2)

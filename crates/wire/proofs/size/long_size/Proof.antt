@@ -17,33 +17,11 @@ abbrev μ-loop : tie.MeasureT-loop
 loop-holds : tie.Need-loop-holds Inv-loop μ-loop
 loop-holds c = (omega arith, unfold val in refl)
 
-mul-capped : tie.Need-mul-capped Inv-loop μ-loop
-mul-capped c = omega arith
-
-add-wide : tie.Need-add-wide Inv-loop μ-loop
-add-wide c = omega arith
-
-shared-slice-read-wide : tie.Need-shared-slice-read-wide Inv-loop μ-loop
-shared-slice-read-wide c = omega arith
-
-wide-requires : tie.Need-wide-requires Inv-loop μ-loop
-wide-requires c κs = tt
-
-add-capped : tie.Need-add-capped Inv-loop μ-loop
-add-capped c = omega arith
-
-capped-requires : tie.Need-capped-requires Inv-loop μ-loop
-capped-requires c κs = tt
-
-add-i : tie.Need-add-i Inv-loop μ-loop
-add-i c = omega arith
-
-loop-less : tie.Need-loop-less Inv-loop μ-loop
-loop-less c = omega arith
-
 loop-again : tie.Need-loop-again Inv-loop μ-loop
 loop-again c =
-    let r = size-step (c .before .before .before .before .before .before .args .s .now) (c .before .before .before .before .loop .i) (c .before .before .before .before .loop .n) (c .before .wide .result) (c .before .before .before .before .before .before .args .k) (omega arith) (omega arith) (c .before .before .before .before .loop .inv .1) (c .before .wide .ensures .0) in
+    let a = c .before .before .before .before .before .before .args in
+    let l = c .before .before .before .before .loop in
+    let r = size-step (a .s .now) (l .i) (l .n) (c .before .wide .result) (a .k) (omega arith) (omega arith) (l .inv .1) (c .before .wide .ensures .0) in
     (r .0, c .capped .ensures ∙ r .1)
 
 returns : tie.Need-returns Inv-loop μ-loop
@@ -58,13 +36,13 @@ long-size-spec =
     Inv-loop
     μ-loop
     loop-holds
-    mul-capped
-    add-wide
-    shared-slice-read-wide
-    wide-requires
-    add-capped
-    capped-requires
-    add-i
-    loop-less
+    (λ c. omega arith)  -- mul-capped
+    (λ c. omega arith)  -- add-wide
+    (λ c. omega arith)  -- shared-slice-read-wide
+    (λ c κs. tt)  -- wide-requires
+    (λ c. omega arith)  -- add-capped
+    (λ c κs. tt)  -- capped-requires
+    (λ c. omega arith)  -- add-i
+    (λ c. omega arith)  -- loop-less
     loop-again
     returns)

@@ -16,23 +16,8 @@ Inv-loop s e₀ e = (e ≤ length s) × Between 0 0x7f 0 e s
 abbrev μ-loop : tie.MeasureT-loop
 μ-loop s e₀ e = length s - e
 
-eights-requires : tie.Need-eights-requires Inv-loop μ-loop
-eights-requires c κs = search needs
-
-loop-holds : tie.Need-loop-holds Inv-loop μ-loop
-loop-holds c = (c .eights .ensures .1, c .eights .ensures .2)
-
-shared-slice-read-if1 : tie.Need-shared-slice-read-if1 Inv-loop μ-loop
-shared-slice-read-if1 c = search needs
-
 returns : tie.Need-returns Inv-loop μ-loop
 returns c = λ e. absurd (false≢true e)
-
-add-e : tie.Need-add-e Inv-loop μ-loop
-add-e c = search needs
-
-loop-less : tie.Need-loop-less Inv-loop μ-loop
-loop-less c = search needs
 
 loop-again : tie.Need-loop-again Inv-loop μ-loop
 loop-again c = (omega arith, between-next _ _ _ _ (c .before .before .before .before .before .before .args .s .now) (c .before .before .before .loop .inv .1) zero-le (omega (arith, c .if1 .left)))
@@ -47,4 +32,14 @@ returns-2 c =
 pub all-low-spec : {M : Type 1} → statement M
 all-low-spec =
     tie.close
-    (tie.spec Inv-loop μ-loop eights-requires loop-holds shared-slice-read-if1 returns add-e loop-less loop-again returns-2)
+    (tie.spec
+    Inv-loop
+    μ-loop
+    (λ c κs. search needs)  -- eights-requires
+    (λ c. (c .eights .ensures .1, c .eights .ensures .2))  -- loop-holds
+    (λ c. search needs)  -- shared-slice-read-if1
+    returns
+    (λ c. search needs)  -- add-e
+    (λ c. search needs)  -- loop-less
+    loop-again
+    returns-2)

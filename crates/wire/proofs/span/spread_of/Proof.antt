@@ -18,37 +18,24 @@ abbrev μ-loop : tie.MeasureT-loop
 loop-holds : tie.Need-loop-holds Inv-loop μ-loop
 loop-holds c = (omega arith, rw add-zero (between-none _ _ _ (c .before .args .s .now)))
 
-add-b : tie.Need-add-b Inv-loop μ-loop
-add-b c = search needs
-
-shared-slice-read-b : tie.Need-shared-slice-read-b Inv-loop μ-loop
-shared-slice-read-b c = search needs
-
-lesser-requires : tie.Need-lesser-requires Inv-loop μ-loop
-lesser-requires c κs = search needs
-
-greater-requires : tie.Need-greater-requires Inv-loop μ-loop
-greater-requires c κs = search needs
-
-add-j : tie.Need-add-j Inv-loop μ-loop
-add-j c = search needs
-
-loop-less : tie.Need-loop-less Inv-loop μ-loop
-loop-less c = search needs
-
 loop-again : tie.Need-loop-again Inv-loop μ-loop
 loop-again c =
     let s = c .before .before .before .before .before .before .args .s .now in
     let i = c .before .before .before .before .before .before .args .i in
     let j = c .before .before .before .before .loop .j in
     let e : i + (j + 1) ≡ i + j + 1 = omega arith in
-    let w = between-wider (c .before .before .before .before .loop .low) (c .before .before .before .before .loop .high) (c .before .lesser .result) (c .greater .result) i (i + j) s (c .before .before .before .before .loop .inv .1) (c .before .lesser .ensures .0) (c .greater .ensures .0) in
-    (omega arith, rw e (between-next _ _ i (i + j) s w (c .before .lesser .ensures .1) (c .greater .ensures .1)))
+    let l = c .before .before .before .before .loop in
+    let low = c .before .lesser in
+    let high = c .greater in
+    let w = between-wider (l .low) (l .high) (low .result) (high .result) i (i + j) s (l .inv .1) (low .ensures .0) (high .ensures .0) in
+    (omega arith, rw e (between-next _ _ i (i + j) s w (low .ensures .1) (high .ensures .1)))
 
 returns : tie.Need-returns Inv-loop μ-loop
 returns c =
     let e : c .before .loop .j ≡ 64 = omega arith in
-    subst (λ k. Between (c .before .loop .low) (c .before .loop .high) (c .before .before .before .args .i) (c .before .before .before .args .i + k) (c .before .before .before .args .s .now)) e (c .before .loop .inv .1)
+    let l = c .before .loop in
+    let a = c .before .before .before .args in
+    subst (λ k. Between (l .low) (l .high) (a .i) (a .i + k) (a .s .now)) e (l .inv .1)
 
 pub spread-of-spec : {M : Type 1} → statement M
 spread-of-spec =
@@ -57,11 +44,11 @@ spread-of-spec =
     Inv-loop
     μ-loop
     loop-holds
-    add-b
-    shared-slice-read-b
-    lesser-requires
-    greater-requires
-    add-j
-    loop-less
+    (λ c. search needs)  -- add-b
+    (λ c. search needs)  -- shared-slice-read-b
+    (λ c κs. search needs)  -- lesser-requires
+    (λ c κs. search needs)  -- greater-requires
+    (λ c. search needs)  -- add-j
+    (λ c. search needs)  -- loop-less
     loop-again
     returns)

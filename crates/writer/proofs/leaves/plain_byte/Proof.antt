@@ -6,18 +6,9 @@ use Rattle.writer.specs.Forms.{plainByte}
 use Rattle.writer.proofs.leaves.plain_byte.Statement.{statement}
 use Rattle.writer.proofs.leaves.plain_byte.Tie as tie
 
-cast-result : tie.Need-cast-result
-cast-result c = omega (arith, c .before .pre .0 (c .if1 .taken))
-
 returns : tie.Need-returns
 unfolding plainByte
 returns c = sym (ifEq-yes _ 3 _ _ (c .if1 .taken))
-
-add-result : tie.Need-add-result
-add-result c = omega (arith, c .before .before .pre .1 (c .before .if1 .left))
-
-cast-result-2 : tie.Need-cast-result-2
-cast-result-2 c = omega (arith, c .before .before .pre .1 (c .before .if1 .left))
 
 returns-2 : tie.Need-returns-2
 unfolding plainByte
@@ -27,12 +18,6 @@ returns-3 : tie.Need-returns-3
 unfolding plainByte
 returns-3 c = sym (ifEq-no _ 3 _ _ (c .before .before .if1 .left) ∙ ifEq-no _ 4 _ _ (c .before .if2 .left) ∙ ifEq-yes _ 5 _ _ (c .if3 .taken))
 
-add-result-2 : tie.Need-add-result-2
-add-result-2 c = omega (arith, c .before .before .before .pre .1 (c .before .before .if1 .left))
-
-cast-result-3 : tie.Need-cast-result-3
-cast-result-3 c = omega (arith, c .before .before .before .pre .1 (c .before .before .if1 .left))
-
 returns-4 : tie.Need-returns-4
 unfolding plainByte
 returns-4 c = sym (ifEq-no _ 3 _ _ (c .before .before .if1 .left) ∙ ifEq-no _ 4 _ _ (c .before .if2 .left) ∙ ifEq-no _ 5 _ _ (c .if3 .left))
@@ -41,12 +26,12 @@ pub plain-byte-spec : {M : Type 1} → statement M
 plain-byte-spec =
     tie.close
     (tie.spec
-    cast-result
+    (λ c. omega (arith, c .before .pre .0 (c .if1 .taken)))  -- cast-result
     returns
-    add-result
-    cast-result-2
+    (λ c. omega (arith, c .before .before .pre .1 (c .before .if1 .left)))  -- add-result
+    (λ c. omega (arith, c .before .before .pre .1 (c .before .if1 .left)))  -- cast-result-2
     returns-2
     returns-3
-    add-result-2
-    cast-result-3
+    (λ c. omega (arith, c .before .before .before .pre .1 (c .before .before .if1 .left)))  -- add-result-2
+    (λ c. omega (arith, c .before .before .before .pre .1 (c .before .before .if1 .left)))  -- cast-result-3
     returns-4)

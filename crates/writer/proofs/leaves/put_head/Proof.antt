@@ -1,49 +1,39 @@
 -- `writer::leaves::put_head` meets its contract. Assumes nothing.
 use native.Mathlib.Omega.{arith}
-use Prim.Native.Nat.{_<_}
-use lib.ListN.{length, length-set}
+use mathlib.Core.Path.{refl, _∙_}
+use mathlib.Core.List.{[], _∷_}
+use lib.ListN.{set, length-set}
 use borrow.Author.Needs.{needs}
 use Rattle.format.specs.Normal.{normalSize}
-use Rattle.writer.proofs.Over.{byte-part, byte-then, byte-length}
+use Rattle.format.specs.Lent.{overAt}
+use Rattle.format.proofs.Over.{part-length, back-length, set-at, lent-next}
 use Rattle.writer.proofs.leaves.put_head.Statement.{statement}
 use Rattle.writer.proofs.leaves.put_head.Tie as tie
 
-slice-write-out : tie.Need-slice-write-out
-slice-write-out c = search needs
-
-sub-put-size : tie.Need-sub-put-size
-sub-put-size c = simp length-set (omega arith)
-
-part-put-size-start : tie.Need-part-put-size-start
-part-put-size-start c = simp length-set (omega arith)
-
-part-put-size-end : tie.Need-part-put-size-end
-part-put-size-end c = search needs
-
 put-size-requires : tie.Need-put-size-requires
-put-size-requires c κs =
-    let h : 0 < length (c .before .before .args .out .now) = omega arith in
-    omega (arith, byte-part (c .before .before .args .out .now) (c .before .before .args .byte) h)
+put-size-requires c κs = let a = c .before .before .args in omega (arith, part-length 1 (set (a .out .now) 0 (a .byte)), length-set (a .out .now) 0 (a .byte))
 
 same-length : tie.Need-same-length
 same-length c =
-    let h : 0 < length (c .before .before .before .before .before .args .out .now) = omega arith in
-    byte-length (c .before .before .before .before .before .args .out .now) (c .before .before .before .before .before .args .byte) h (c .before .before .put-size .last .0) (c .before .before .put-size .kept .0)
+    let a = c .before .before .before .before .before .args in
+    let e = length-set (a .out .now) 0 (a .byte) in
+    back-length 1 (set (a .out .now) 0 (a .byte)) (c .before .before .put-size .last .0) (omega arith) (c .before .before .put-size .kept .0) ∙ e
 
 returns : tie.Need-returns
+unfolding overAt
 returns c =
     let a = c .before .before .before .before .before .args in
-    let h : 0 < length (a .out .now) = omega arith in
-    byte-then (a .out .now) (a .byte) h (normalSize (a .size)) (c .before .before .put-size .last .0) (c .before .before .put-size .ensures)
+    lent-next (a .byte ∷ []) (normalSize (a .size)) (a .out .now) (set (a .out .now) 0 (a .byte)) (c .before .before .put-size .last .0) 1 refl
+    (set-at 0 (a .byte) (a .out .now) (omega arith)) (c .before .before .put-size .ensures)
 
 pub put-head-spec : {M : Type 1} → statement M
 put-head-spec =
     tie.close
     (tie.spec
-    slice-write-out
-    sub-put-size
-    part-put-size-start
-    part-put-size-end
+    (λ c. search needs)  -- slice-write-out
+    (λ c. simp length-set (omega arith))  -- sub-put-size
+    (λ c. simp length-set (omega arith))  -- part-put-size-start
+    (λ c. search needs)  -- part-put-size-end
     put-size-requires
     same-length
     returns)

@@ -5,17 +5,11 @@ use Rattle.writer.proofs.NumberLaws.{width-zeros}
 use Rattle.writer.proofs.numbers.width.Statement.{statement}
 use Rattle.writer.proofs.numbers.width.Tie as tie
 
-returns : tie.Need-returns
-returns c = omega (arith, width-one (c .before .args .n) (c .if1 .taken))
-
-cast-result : tie.Need-cast-result
-cast-result c = let w = width-zeros (c .before .args .n) (c .if1 .left) (omega arith) in omega arith
-
-sub-result : tie.Need-sub-result
-sub-result c = let w = width-zeros (c .before .args .n) (c .if1 .left) (omega arith) in omega arith
-
-returns-2 : tie.Need-returns-2
-returns-2 c = let w = width-zeros (c .before .args .n) (c .if1 .left) (omega arith) in omega arith
-
 pub width-spec : {M : Type 1} → statement M
-width-spec = tie.close (tie.spec returns cast-result sub-result returns-2)
+width-spec =
+    tie.close
+    (tie.spec
+    (λ c. omega (arith, width-one (c .before .args .n) (c .if1 .taken)))  -- returns
+    (λ c. let w = width-zeros (c .before .args .n) (c .if1 .left) (omega arith) in omega arith)  -- cast-result
+    (λ c. let w = width-zeros (c .before .args .n) (c .if1 .left) (omega arith) in omega arith)  -- sub-result
+    (λ c. let w = width-zeros (c .before .args .n) (c .if1 .left) (omega arith) in omega arith))  -- returns-2

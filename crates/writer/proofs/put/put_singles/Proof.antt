@@ -14,68 +14,21 @@ abbrev μ-loop : tie.MeasureT-loop
 loop-holds : tie.Need-loop-holds Inv-loop μ-loop
 loop-holds c = (omega arith, strung-starts _ _ _ _ _ _ _)
 
-mul-if1 : tie.Need-mul-if1 Inv-loop μ-loop
-mul-if1 c = omega arith
-
-add-if1 : tie.Need-add-if1 Inv-loop μ-loop
-add-if1 c = omega arith
-
-mul-if1-2 : tie.Need-mul-if1-2 Inv-loop μ-loop
-mul-if1-2 c = omega arith
-
-shared-slice-read-if1 : tie.Need-shared-slice-read-if1 Inv-loop μ-loop
-shared-slice-read-if1 c = omega arith
-
-same-length : tie.Need-same-length Inv-loop μ-loop
-same-length c = c .before .before .before .loop .inv .1 .same
-
 returns : tie.Need-returns Inv-loop μ-loop
-returns c = (strung-ends _ _ _ _ _ _ _ _ _ _ (c .before .before .before .loop .inv .1) (c .before .before .before .loop .inv .0) (λ l k b. c .if1 .taken k), c .before .before .before .loop .inv .1 .written)
-
-mul-b : tie.Need-mul-b Inv-loop μ-loop
-mul-b c = omega arith
-
-add-b : tie.Need-add-b Inv-loop μ-loop
-add-b c = omega arith
-
-mul-b-2 : tie.Need-mul-b-2 Inv-loop μ-loop
-mul-b-2 c = omega arith
-
-shared-slice-read-b : tie.Need-shared-slice-read-b Inv-loop μ-loop
-shared-slice-read-b c = omega arith
-
-same-length-2 : tie.Need-same-length-2 Inv-loop μ-loop
-same-length-2 c = c .before .before .before .before .before .loop .inv .1 .same
+returns c = let i = c .before .before .before .loop .inv in (strung-ends _ _ _ _ _ _ _ _ _ _ (i .1) (i .0) (λ l k b. c .if1 .taken k), i .1 .written)
 
 returns-2 : tie.Need-returns-2 Inv-loop μ-loop
-returns-2 c = (strung-ends _ _ _ _ _ _ _ _ _ _ (c .before .before .before .before .before .loop .inv .1) (c .before .before .before .before .before .loop .inv .0) (λ l k b. omega (arith, c .if2 .taken)), c .before .before .before .before .before .loop .inv .1 .written)
-
-add-out : tie.Need-add-out Inv-loop μ-loop
-add-out c = omega arith
-
-cast-out : tie.Need-cast-out Inv-loop μ-loop
-cast-out c = omega arith
-
-sub-out : tie.Need-sub-out Inv-loop μ-loop
-sub-out c = c .before .before .before .before .before .loop .inv .1 .start
-
-add-out-2 : tie.Need-add-out-2 Inv-loop μ-loop
-add-out-2 c = let a = c .before .before .before .before .before .loop .inv .1 .start in omega arith
+returns-2 c =
+    let b5 = c .before .before .before .before .before in
+    (strung-ends _ _ _ _ _ _ _ _ _ _ (b5 .loop .inv .1) (b5 .loop .inv .0) (λ l k b. omega (arith, c .if2 .taken)), b5 .loop .inv .1 .written)
 
 slice-write-out : tie.Need-slice-write-out Inv-loop μ-loop
 slice-write-out c = let s = c .before .before .before .before .before .loop .inv .1 in let a = s .start in let z = s .same in omega arith
 
-add-q : tie.Need-add-q Inv-loop μ-loop
-add-q c = omega arith
-
-loop-less : tie.Need-loop-less Inv-loop μ-loop
-loop-less c = omega arith
-
 loop-again : tie.Need-loop-again Inv-loop μ-loop
-loop-again c = let a = c .before .before .before .before .before .loop .inv .1 .start in (omega arith, strung-on _ _ _ _ _ _ _ _ _ (c .before .before .before .before .before .loop .inv .1) (c .before .before .if1 .left) (c .if2 .left) (omega arith))
-
-same-length-3 : tie.Need-same-length-3 Inv-loop μ-loop
-same-length-3 c = c .before .loop .inv .1 .same
+loop-again c =
+    let b5 = c .before .before .before .before .before in
+    let a = b5 .loop .inv .1 .start in (omega arith, strung-on _ _ _ _ _ _ _ _ _ (b5 .loop .inv .1) (c .before .before .if1 .left) (c .if2 .left) (omega arith))
 
 returns-3 : tie.Need-returns-3 Inv-loop μ-loop
 returns-3 c = (strung-ends _ _ _ _ _ _ _ _ _ _ (c .before .loop .inv .1) (c .before .loop .inv .0) (λ l k b. omega (arith, c .loop-test .left)), c .before .loop .inv .1 .written)
@@ -87,25 +40,25 @@ put-singles-spec =
     Inv-loop
     μ-loop
     loop-holds
-    mul-if1
-    add-if1
-    mul-if1-2
-    shared-slice-read-if1
-    same-length
+    (λ c. omega arith)  -- mul-if1
+    (λ c. omega arith)  -- add-if1
+    (λ c. omega arith)  -- mul-if1-2
+    (λ c. omega arith)  -- shared-slice-read-if1
+    (λ c. c .before .before .before .loop .inv .1 .same)  -- same-length
     returns
-    mul-b
-    add-b
-    mul-b-2
-    shared-slice-read-b
-    same-length-2
+    (λ c. omega arith)  -- mul-b
+    (λ c. omega arith)  -- add-b
+    (λ c. omega arith)  -- mul-b-2
+    (λ c. omega arith)  -- shared-slice-read-b
+    (λ c. c .before .before .before .before .before .loop .inv .1 .same)  -- same-length-2
     returns-2
-    add-out
-    cast-out
-    sub-out
-    add-out-2
+    (λ c. omega arith)  -- add-out
+    (λ c. omega arith)  -- cast-out
+    (λ c. c .before .before .before .before .before .loop .inv .1 .start)  -- sub-out
+    (λ c. let a = c .before .before .before .before .before .loop .inv .1 .start in omega arith)  -- add-out-2
     slice-write-out
-    add-q
-    loop-less
+    (λ c. omega arith)  -- add-q
+    (λ c. omega arith)  -- loop-less
     loop-again
-    same-length-3
+    (λ c. c .before .loop .inv .1 .same)  -- same-length-3
     returns-3)

@@ -19,35 +19,11 @@ returns c = sym (moved-still _ _ _ _ (c .if1 .taken))
 loop-holds : tie.Need-loop-holds Inv-loop μ-loop
 loop-holds c = (omega arith, refl, sym (moving-all _ _ (c .before .args .by) _))
 
-sub-i : tie.Need-sub-i Inv-loop μ-loop
-sub-i c = omega arith
-
-add-out : tie.Need-add-out Inv-loop μ-loop
-add-out c = omega arith
-
-slice-read-out : tie.Need-slice-read-out Inv-loop μ-loop
-slice-read-out c = omega arith
-
-add-out-2 : tie.Need-add-out-2 Inv-loop μ-loop
-add-out-2 c = omega arith
-
-add-out-3 : tie.Need-add-out-3 Inv-loop μ-loop
-add-out-3 c = omega arith
-
-slice-write-out : tie.Need-slice-write-out Inv-loop μ-loop
-slice-write-out c = omega arith
-
-loop-less : tie.Need-loop-less Inv-loop μ-loop
-loop-less c = omega arith
-
 loop-again : tie.Need-loop-again Inv-loop μ-loop
 loop-again c =
     let s = c .before .before .loop in
     let a = c .before .before .before .before .args in
     (omega arith, simp length-set (s .inv .1), moving-turn (a .from) (a .n) (a .by) (s .i) (a .out .now) (s .out) (c .before .loop-test .taken) (omega arith) (omega arith) (s .inv .2))
-
-same-length : tie.Need-same-length Inv-loop μ-loop
-same-length c = c .before .loop .inv .1
 
 returns-2 : tie.Need-returns-2 Inv-loop μ-loop
 returns-2 c =
@@ -64,13 +40,13 @@ shift-spec =
     μ-loop
     returns
     loop-holds
-    sub-i
-    add-out
-    slice-read-out
-    add-out-2
-    add-out-3
-    slice-write-out
-    loop-less
+    (λ c. omega arith)  -- sub-i
+    (λ c. omega arith)  -- add-out
+    (λ c. omega arith)  -- slice-read-out
+    (λ c. omega arith)  -- add-out-2
+    (λ c. omega arith)  -- add-out-3
+    (λ c. omega arith)  -- slice-write-out
+    (λ c. omega arith)  -- loop-less
     loop-again
-    same-length
+    (λ c. c .before .loop .inv .1)  -- same-length
     returns-2)

@@ -15,46 +15,12 @@ abbrev μ-loop : tie.MeasureT-loop
 loop-holds : tie.Need-loop-holds Inv-loop μ-loop
 loop-holds c = small-starts _ _ _ _ _ (omega arith)
 
-sub-loop : tie.Need-sub-loop Inv-loop μ-loop
-sub-loop c = omega arith
-
-strange-requires : tie.Need-strange-requires Inv-loop μ-loop
-strange-requires c κs = omega arith
-
-add-strange : tie.Need-add-strange Inv-loop μ-loop
-add-strange c = omega arith
-
-strange-requires-2 : tie.Need-strange-requires-2 Inv-loop μ-loop
-strange-requires-2 c κs = omega arith
-
-add-strange-2 : tie.Need-add-strange-2 Inv-loop μ-loop
-add-strange-2 c = omega arith
-
-strange-requires-3 : tie.Need-strange-requires-3 Inv-loop μ-loop
-strange-requires-3 c κs = omega arith
-
-add-strange-3 : tie.Need-add-strange-3 Inv-loop μ-loop
-add-strange-3 c = omega arith
-
-strange-requires-4 : tie.Need-strange-requires-4 Inv-loop μ-loop
-strange-requires-4 c κs = omega arith
-
-returns : tie.Need-returns Inv-loop μ-loop
-returns c = c .before .before .before .before .before .before .loop .inv
-
-add-q : tie.Need-add-q Inv-loop μ-loop
-add-q c = omega arith
-
-loop-less : tie.Need-loop-less Inv-loop μ-loop
-loop-less c = omega arith
-
 loop-again : tie.Need-loop-again Inv-loop μ-loop
 loop-again c =
+    let b3 = c .before .before .before in let b4 = b3 .before in let b6 = b4 .before .before in
     let z = four-none _ _ _ _ (c .if1 .left) in
-    small-fours _ _ _ _ _ _ (c .before .before .before .before .before .before .loop .inv) (omega arith) (c .before .before .before .before .strange .ensures .0 (z .0)) (c .before .before .before .strange2 .ensures .0 (z .1)) (c .before .before .strange3 .ensures .0 (z .2)) (c .before .strange4 .ensures .0 (z .3))
-
-returns-2 : tie.Need-returns-2 Inv-loop μ-loop
-returns-2 c = c .before .loop .inv
+    small-fours _ _ _ _ _ _ (b6 .loop .inv) (omega arith) (b4 .strange .ensures .0 (z .0))
+    (b3 .strange2 .ensures .0 (z .1)) (c .before .before .strange3 .ensures .0 (z .2)) (c .before .strange4 .ensures .0 (z .3))
 
 pub fours-until-spec : {M : Type 1} → statement M
 fours-until-spec =
@@ -63,16 +29,16 @@ fours-until-spec =
     Inv-loop
     μ-loop
     loop-holds
-    sub-loop
-    strange-requires
-    add-strange
-    strange-requires-2
-    add-strange-2
-    strange-requires-3
-    add-strange-3
-    strange-requires-4
-    returns
-    add-q
-    loop-less
+    (λ c. omega arith)  -- sub-loop
+    (λ c κs. omega arith)  -- strange-requires
+    (λ c. omega arith)  -- add-strange
+    (λ c κs. omega arith)  -- strange-requires-2
+    (λ c. omega arith)  -- add-strange-2
+    (λ c κs. omega arith)  -- strange-requires-3
+    (λ c. omega arith)  -- add-strange-3
+    (λ c κs. omega arith)  -- strange-requires-4
+    (λ c. c .before .before .before .before .before .before .loop .inv)  -- returns
+    (λ c. omega arith)  -- add-q
+    (λ c. omega arith)  -- loop-less
     loop-again
-    returns-2)
+    (λ c. c .before .loop .inv))  -- returns-2

@@ -13,23 +13,8 @@ Inv-loop table p to kind bound q₀ q = SmallRows table kind bound p to q
 abbrev μ-loop : tie.MeasureT-loop
 μ-loop table p to kind bound q₀ q = to - q
 
-fours-until-requires : tie.Need-fours-until-requires Inv-loop μ-loop
-fours-until-requires c κs = search needs
-
-loop-holds : tie.Need-loop-holds Inv-loop μ-loop
-loop-holds c = c .fours-until .ensures
-
-strange-requires : tie.Need-strange-requires Inv-loop μ-loop
-strange-requires c κs = omega arith
-
 returns : tie.Need-returns Inv-loop μ-loop
 returns c = (c .before .before .before .loop .inv, λ l s. c .if1 .taken (c .before .strange .ensures .1 s))
-
-add-q : tie.Need-add-q Inv-loop μ-loop
-add-q c = omega arith
-
-loop-less : tie.Need-loop-less Inv-loop μ-loop
-loop-less c = omega arith
 
 loop-again : tie.Need-loop-again Inv-loop μ-loop
 loop-again c = small-on _ _ _ _ _ _ (c .before .before .before .loop .inv) (c .before .before .loop-test .taken) (c .before .strange .ensures .0 (c .if1 .left))
@@ -43,11 +28,11 @@ small-until-spec =
     (tie.spec
     Inv-loop
     μ-loop
-    fours-until-requires
-    loop-holds
-    strange-requires
+    (λ c κs. search needs)  -- fours-until-requires
+    (λ c. c .fours-until .ensures)  -- loop-holds
+    (λ c κs. omega arith)  -- strange-requires
     returns
-    add-q
-    loop-less
+    (λ c. omega arith)  -- add-q
+    (λ c. omega arith)  -- loop-less
     loop-again
     returns-2)

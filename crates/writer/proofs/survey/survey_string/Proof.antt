@@ -1,92 +1,65 @@
 -- `writer::survey::survey_string` meets its contract. Assumes nothing.
-use Rattle.writer.specs.Rows.{aAt}
-use Prim.Native.Nat.{_+_}
-use mathlib.Core.Path.{ap}
+use Rattle.table.specs.Rows.{aAt}
+use Prim.Native.Nat.{_≤_}
 use native.Mathlib.Omega.{arith}
-use Rattle.writer.proofs.NumberLaws.{size-short}
-use Rattle.writer.proofs.Surveying.{text-deepest, text-wrong, text-whole, text-small}
+use Rattle.writer.proofs.NumberLaws.{size-most}
+use Rattle.writer.proofs.Surveying.{Survey, text-deepest, text-wrong, text-whole, text-small}
 use borrow.Author.Needs.{needs}
 use Rattle.writer.proofs.survey.survey_string.Statement.{statement}
 use Rattle.writer.proofs.survey.survey_string.Tie as tie
 
+-- where the survey stands
+here : (c : tie.After-shared-slice-known) → Survey (c .before .args .table .now) (c .before .args .base) (c .before .args .p) (c .before .args .to)
+here c =
+    let h = c .before .pre in
+    record { header = h .0 .0; bound = λ i. omega (arith, c .shared-slice-known .given i); some = h .1 .0; within = h .1 .1; fits = h .1 .2 }
+
 returns : tie.Need-returns
-returns c = let h = c .before .before .pre in text-deepest _ _ _ (h .0 .0) (λ i. omega (arith, c .before .shared-slice-known .given i)) _ _ _ (omega arith) (omega arith) (omega arith) (h .0 .1) _ (c .if1 .taken)
+returns c = text-deepest (here (c .before)) (c .before .before .pre .0 .1) _ (c .if1 .taken)
 
-shared-slice-read-rows : tie.Need-shared-slice-read-rows
-shared-slice-read-rows c = search needs
-
-shared-slice-read-words : tie.Need-shared-slice-read-words
-shared-slice-read-words c = search needs
-
-string-row-requires : tie.Need-string-row-requires
-string-row-requires c κs = search needs
-
-enum-told : tie.Need-enum-told
-enum-told c = search needs
-
-enum-known-row : tie.Need-enum-known-row
-enum-known-row c = search needs
-
-mul-size : tie.Need-mul-size
-mul-size c = search needs
-
-add-size : tie.Need-add-size
-add-size c = search needs
-
-mul-size-2 : tie.Need-mul-size-2
-mul-size-2 c = search needs
-
-shared-slice-read-size : tie.Need-shared-slice-read-size
-shared-slice-read-size c = search needs
-
-size-length-requires : tie.Need-size-length-requires
-size-length-requires c κs = search needs
-
-add-t17 : tie.Need-add-t17
-add-t17 c =
-    let h = c .before .before .before .before .before .before .before .before .before .before .pre in
+-- the row is in order, and how long its size can be
+small : (c : tie.After-size-length)
+    → let b10 = c .before .before .before .before .before .before .before .before .before .before in (c .size-length .result ≤ 4) × (aAt (b10 .args .table .now) (b10 .args .p) ≤ 131072)
+small c =
+    let b9 = c .before .before .before .before .before .before .before .before .before in let b10 = b9 .before in
+    let a = b10 .args in
     let j = rw (c .before .before .before .row .given .1) at (c .before .before .before .before .before .string-row .ensures) in
-    let s = text-small _ _ _ (h .0 .0) (λ i. omega (arith, c .before .before .before .before .before .before .before .before .before .shared-slice-known .given i)) _ _ _ (h .1 .0) (h .1 .1) (h .1 .2) (h .0 .1) (j .0) in
-    omega (arith, c .size-length .ensures, size-short (aAt (c .before .before .before .before .before .before .before .before .before .before .args .table .now) (c .before .before .before .before .before .before .before .before .before .before .args .p)) (omega arith))
-
-add-t18 : tie.Need-add-t18
-add-t18 c =
-    let h = c .before .before .before .before .before .before .before .before .before .before .pre in
-    let j = rw (c .before .before .before .row .given .1) at (c .before .before .before .before .before .string-row .ensures) in
-    let s = text-small _ _ _ (h .0 .0) (λ i. omega (arith, c .before .before .before .before .before .before .before .before .before .shared-slice-known .given i)) _ _ _ (h .1 .0) (h .1 .1) (h .1 .2) (h .0 .1) (j .0) in
-    omega (arith, c .size-length .ensures, size-short (aAt (c .before .before .before .before .before .before .before .before .before .before .args .table .now) (c .before .before .before .before .before .before .before .before .before .before .args .p)) (omega arith))
+    let s = text-small (here (b9)) (b10 .pre .0 .1) (j .0) in
+    (omega (arith, c .size-length .ensures, size-most (aAt (a .table .now) (a .p)) (omega arith)), s)
 
 add-t21 : tie.Need-add-t21
-add-t21 c = let h = c .before .before .before .before .before .before .before .before .before .before .pre in let j = rw (c .before .before .before .row .given .1) at (c .before .before .before .before .before .string-row .ensures) in omega (arith, j .1, h .0 .0 .little)
+add-t21 c =
+    let b3 = c .before .before .before in let b5 = b3 .before .before in let b10 = b5 .before .before .before .before .before in
+    let j = rw (b3 .row .given .1) at (b5 .string-row .ensures) in omega (arith, j .1, b10 .pre .0 .0 .little)
 
 returns-2 : tie.Need-returns-2
 returns-2 c =
-    let h = c .before .before .before .before .before .before .before .pre in
-    text-wrong _ _ _ (h .0 .0) (λ i. omega (arith, c .before .before .before .before .before .before .shared-slice-known .given i)) _ _ _ (h .1 .0) (h .1 .1) (h .1 .2) (h .0 .1) (rw (c .enum-told .given .1) at (c .before .before .string-row .ensures))
+    let b6 = c .before .before .before .before .before .before in let b7 = b6 .before in
+    text-wrong (here (b6)) (b7 .pre .0 .1) (rw (c .enum-told .given .1) at (c .before .before .string-row .ensures))
 
 returns-3 : tie.Need-returns-3
 returns-3 c =
-    let h = c .before .before .before .before .before .before .before .before .before .before .pre in
+    let b8 = c .before .before .before .before .before .before .before .before in let b9 = b8 .before in let b10 = b9 .before in
     let j = rw (c .before .before .before .row .given .1) at (c .before .before .before .before .before .string-row .ensures) in
-    text-whole _ _ _ (h .0 .0) (λ i. omega (arith, c .before .before .before .before .before .before .before .before .before .shared-slice-known .given i)) _ _ _ (h .1 .0) (h .1 .1) (h .1 .2) (h .0 .1) _ _ _ (c .before .before .before .before .before .before .before .before .if1 .left) (j .0) (ap (λ z. c .before .before .before .before .before .before .before .before .before .before .args .past + z) (j .2)) (j .1) (c .size-length .ensures)
+    text-whole (here (b9)) (b10 .pre .0 .1) _ _ _ (b8 .if1 .left) j (c .size-length .ensures)
 
 pub survey-string-spec : {M : Type 1} → statement M
 survey-string-spec =
     tie.close
     (tie.spec
     returns
-    shared-slice-read-rows
-    shared-slice-read-words
-    string-row-requires
-    enum-told
-    enum-known-row
-    mul-size
-    add-size
-    mul-size-2
-    shared-slice-read-size
-    size-length-requires
-    add-t17
-    add-t18
+    (λ c. search needs)  -- shared-slice-read-rows
+    (λ c. search needs)  -- shared-slice-read-words
+    (λ c κs. search needs)  -- string-row-requires
+    (λ c. search needs)  -- enum-told
+    (λ c. search needs)  -- enum-known-row
+    (λ c. search needs)  -- mul-size
+    (λ c. search needs)  -- add-size
+    (λ c. search needs)  -- mul-size-2
+    (λ c. search needs)  -- shared-slice-read-size
+    (λ c κs. search needs)  -- size-length-requires
+    (λ c. let s = small c in omega arith)  -- add-t17
+    (λ c. let s = small c in omega arith)  -- add-t18
     add-t21
     returns-2
     returns-3)
