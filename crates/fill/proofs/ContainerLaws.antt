@@ -20,7 +20,7 @@ use Rattle.format.specs.Lent.{overAt}
 use Rattle.format.proofs.Choices.{clash, byPick, pick-no}
 use Rattle.format.proofs.Parts.{rest-part, middle-part}
 use Rattle.format.specs.Runs.{objectAt}
-use Rattle.format.proofs.Counts.{words, times-zero, rows-times, count-times, words-times}
+use Rattle.format.proofs.Counts.{words, times-zero, rows-times, count-times, words-times, count-rows}
 use Rattle.format.proofs.TableLaws.{row-length}
 use Rattle.wire.proofs.head.Wrap.{the-type}
 use Rattle.wire.specs.declared.head.Wrap.{Wrap}
@@ -38,7 +38,7 @@ use Rattle.fill.proofs.AgainLaws.{at-least}
 use Rattle.fill.proofs.Regions.{front-over, back-over, back-in, back-out, front-lent, from-at, at-over, fronted, front-at, back-at}
 use Rattle.fill.proofs.CopyLaws.{copies-length}
 use Rattle.fill.proofs.AgainLaws.{again-length}
-use Rattle.fill.proofs.RowLaws.{count-rows, rows-again, words-again}
+use Rattle.fill.proofs.RowLaws.{rows-again, words-again}
 
 -- ---- by the code's match
 pub is-group : (w : Wrap) → OneOf (0 ∷ 1 ∷ 2 ∷ []) (tagOf the-type w) → (copiesOf w ≡ 1) × (ownWords w ≡ 3)

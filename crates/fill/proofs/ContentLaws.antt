@@ -22,8 +22,8 @@ use Rattle.fill.specs.Containers.{copiesOf, isStruc, textIn, ownWords, c
 use Rattle.fill.specs.Contents.{ContentsFit, ContentsFilled}
 use Rattle.fill.specs.Walks.{Fits, Laid}
 use Rattle.fill.proofs.ContainerLaws.{Elements}
-use Rattle.fill.proofs.TextLaws.{chars-string}
 use Rattle.fill.proofs.TryLaws.{struc-text}
+use Rattle.format.proofs.ItemLaws.{chars-string}
 
 -- ---- a string
 module _ (xs : Items) (k : isString xs ≡ true) where

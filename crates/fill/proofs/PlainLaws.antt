@@ -4,8 +4,7 @@ use native.Mathlib.Omega.{arith}
 use mathlib.Core.Path.{_≡_, refl, sym, ap, _∙_, subst}
 use mathlib.Core.Bool.{Bool}
 use mathlib.Core.List.{List, [], _∷_, _++_, append-nil}
-use lib.ListN.{length, take, drop, length-take, length-drop}
-use lib.Seq.{length-take-le}
+use lib.ListN.{length, take, drop}
 use types.Run.{OneOf, miss}
 use denote.Enum.Declared.{tagOf}
 use Rattle.format.specs.Bits.{spread, packed, bytesFor, wordsFor}
@@ -16,12 +15,13 @@ use Rattle.format.specs.Objects as O
 use Rattle.format.specs.Messages.{Outcome, got, object, reads}
 use Rattle.format.proofs.Choices.{split}
 use Rattle.format.specs.Runs.{objectAt}
-use Rattle.format.proofs.BitLaws.{packed-length, spread-length}
+use Rattle.format.proofs.BitLaws.{packed-length}
 use Rattle.wire.proofs.head.Head.{the-type}
 use Rattle.wire.specs.declared.head.Head.{Head}
 use Rattle.wire.specs.declared.head.Head.the-variants.{Stop, Gap, Row, Sbits, Lbits, Text, Open}
 use Rattle.wire.specs.Heads.{HeadIs, IsRow, IsSbits, bitsFrom}
 use Rattle.fill.specs.Plain.{Apt, plainRows, plainWords, placedAs, plainPlaced}
+use Rattle.wire.proofs.HeadLaws.{lbits-length}
 
 -- ---- what a head has shown: the items xs, and u bytes past the type-byte
 pub record Shown (s : List ℕ) (h : Head) (xs : Items) (u : ℕ) : Type 0 where
@@ -61,12 +61,6 @@ sbits-words bs n w r =
     split 0 n
     (λ p. let e : (n + 63) / 64 ≡ 1 = omega arith in rw e (ap (λ v. v ∷ []) (sym (r .word))))
     (λ z. let e : (n + 63) / 64 ≡ 0 = omega arith in rw e refl)
-
-pub lbits-length : (s : List ℕ) (a n : ℕ) → a + bytesFor n ≤ length s → length (bitsFrom s a n) ≡ n
-unfolding bytesFor
-lbits-length s a n h =
-    let l : length (take ((n + 7) / 8) (drop a s)) ≡ (n + 7) / 8 = simp (length-take, length-drop) (omega arith) in
-    length-take-le n _ (omega (arith, spread-length 8 (take ((n + 7) / 8) (drop a s))))
 
 -- ---- by the code's head
 -- the places in the enum of all but the string and the container

@@ -1,25 +1,19 @@
 -- The rows of a repeat are its pattern's, copied; its data words likewise. Assumes nothing.
-use Prim.Native.Nat.{ℕ, zero, suc, _+_, _*_, _≤_, zero-le}
+use Prim.Native.Nat.{ℕ, zero, suc, _+_, _≤_}
 use native.Mathlib.Omega.{arith}
 use native.Mathlib.Nat.{mod-eq-of-lt}
 use mathlib.Core.Path.{_≡_, refl, sym, ap, ap₂, _∙_}
 use mathlib.Core.Bool.{Bool, true, false}
-use mathlib.Core.List.{List, [], _∷_, _++_}
+use mathlib.Core.List.{[], _∷_, _++_}
 use Rattle.format.proofs.Choices.{whether}
 use lib.ListN.{length, length-append}
 use Rattle.format.specs.Choice.{pick}
 use Rattle.format.specs.Items.{Leaf, int, bits, char, bool, empty, xtra, Group, struc, edt, Items, end, leaf, group, times, leafKind, allOf, groupKind, kinds, isString}
 use Rattle.format.specs.Tables.{count, isText, rows, leafWords, textWords, dataWords, groupWords, leafA, leafB, rowKind, groupB, rowWords}
 use Rattle.format.proofs.Counts.{words, times-zero, times-suc, words-join, data-join, row-words-join}
-use Rattle.format.proofs.TableLaws.{row-length}
+use Rattle.format.proofs.TableLaws.{row-length, beneath-length}
 use Rattle.fill.specs.Copies.{inData, shift, rebased, copies, again}
 use Rattle.fill.proofs.CopyLaws.{rebased-append}
-
-pub count-rows : (xs : Items) → count xs ≤ rows xs
-unfolding count rows
-count-rows end = zero-le
-count-rows (leaf l xs) = omega (arith, count-rows xs)
-count-rows (group g c xs) = omega (arith, count-rows xs)
 
 -- ---- rebased, only the places of BITS and strings change
 leaf-rebased : (w d : ℕ) (l : Leaf) → d ≤ 65536 → w ≤ 65536 → shift w (leafKind l) (leafB d l) ≡ leafB (d + w) l
@@ -37,11 +31,6 @@ group-rebased w d struc c h i =
     whether (allOf 3 (kinds c)) (λ t. rw t (mod-eq-of-lt (omega arith))) (λ t. rw t refl)
 group-rebased w d edt c h i = refl
 
-beneath-whole : (t : Bool) (l : List ℕ) (n : ℕ) → length l ≡ 3 * n → length (pick t [] l) ≡ 3 * pick t 0 n
-unfolding pick
-beneath-whole true l n e = refl
-beneath-whole false l n e = e
-
 rows-rebased : (w d : ℕ) (xs : Items) → d + words xs ≤ 65536 → w ≤ 65536 → rebased w (rowWords d xs) ≡ rowWords (d + w) xs
 unfolding rowWords dataWords groupWords rebased pick
 rows-rebased w d end h i = refl
@@ -56,7 +45,7 @@ rows-rebased w d (group g c xs) h i =
     let e : d + v + w ≡ d + w + v = omega arith in
     let t : Bool = isText g c in
     ap₂ (λ b r. rowKind g c ∷ count c ∷ b ∷ r) (group-rebased w d g c (omega arith) i)
-    (rebased-append w (pick t 0 (rows c)) (pick t [] (rowWords d c)) (rowWords (d + v) xs) (beneath-whole t (rowWords d c) (rows c) (row-length d c))
+    (rebased-append w (pick t 0 (rows c)) (pick t [] (rowWords d c)) (rowWords (d + v) xs) (beneath-length t (rowWords d c) (rows c) (row-length d c))
     ∙ ap₂ _++_ (inside t refl (λ z. rows-rebased w d c z i)) (rows-rebased w (d + v) xs (omega arith) i ∙ ap (λ n. rowWords n xs) e))
   where
     inside : (t : Bool) → isText g c ≡ t → (d + words c ≤ 65536 → rebased w (rowWords d c) ≡ rowWords (d + w) c) → rebased w (pick t [] (rowWords d c)) ≡ pick t [] (rowWords (d + w) c)

@@ -22,7 +22,7 @@ use Rattle.wire.specs.Ranges.{Between}
 use Rattle.wire.specs.Heads.{IsRow, OneRow}
 use Rattle.wire.proofs.OneRows.{char-at, small-at, long-byte, long-at}
 use Rattle.fill.specs.declared.stretch.Stretch.{Stretch}
-use Rattle.fill.specs.Stretch.{Ranged, LongOf, Stretched}
+use Rattle.fill.specs.Stretch.{RowsInRange, LongOf, Stretched}
 
 leaf-rows : (d k v : ℕ) (l : Leaf) → IsRow l k v → rowWords d (one l) ≡ k ∷ 0 ∷ v ∷ []
 unfolding rowWords
@@ -37,10 +37,10 @@ unfolding dataWords
 leaf-none k v l r = rw (r .none) refl
 
 -- the one-byte items by their ranges
-pub char-range : Ranged 0 0x7f 3
+pub char-range : RowsInRange 0 0x7f 3
 char-range b s g h = let e : b - 0 ≡ b = omega arith in rw e (char-at b s (omega arith))
 
-pub small-range : Ranged 0x80 0xbf 1
+pub small-range : RowsInRange 0x80 0xbf 1
 small-range b s g h = let e : b - 0x80 ≡ b % 64 = omega arith in rw e (small-at b s g (omega arith))
 
 -- an LINTEGER's type-byte, as the code tells it
@@ -103,7 +103,7 @@ stretched-row s i used t t′ k v u h free r w =
     }
 
 module _ {s : List ℕ} {i used : ℕ} {t₀ t : List ℕ} {e n : ℕ} (c : Stretched s i used t₀ t e n) (h : e < length s) (free : used + 3 * n + 3 ≤ length t) where
-  stretched-ranged : (lo hi kind : ℕ) → Ranged lo hi kind → lo ≤ getD s e 0 → getD s e 0 ≤ hi → {t′ : List ℕ}
+  stretched-ranged : (lo hi kind : ℕ) → RowsInRange lo hi kind → lo ≤ getD s e 0 → getD s e 0 ≤ hi → {t′ : List ℕ}
       → t′ ≡ overAt (used + 3 * n) (kind ∷ 0 ∷ (getD s e 0 - lo) ∷ []) t → Stretched s i used t₀ t′ (e + 1) (n + 1)
   stretched-ranged lo hi kind r g l {t′} w =
       let x = stretched-row s e (used + 3 * n) t t′ kind (getD s e 0 - lo) 0 h free (r (getD s e 0) (drop (e + 1) s) g l) w in
@@ -121,7 +121,7 @@ range-start s i used t h g = subst (λ p. Stretched s i used t t p 0) (sym (add-
 
 -- j of them and one more
 pub ranged-more : {s : List ℕ} {i used : ℕ} {t₀ t : List ℕ} {j : ℕ} → Stretched s i used t₀ t (i + j) j → i + j < length s → used + 3 * j + 3 ≤ length t
-    → (lo hi kind : ℕ) → Ranged lo hi kind → lo ≤ getD s (i + j) 0 → getD s (i + j) 0 ≤ hi
+    → (lo hi kind : ℕ) → RowsInRange lo hi kind → lo ≤ getD s (i + j) 0 → getD s (i + j) 0 ≤ hi
     → {t′ : List ℕ} → t′ ≡ overAt (used + 3 * j) (kind ∷ 0 ∷ (getD s (i + j) 0 - lo) ∷ []) t → Stretched s i used t₀ t′ (i + (j + 1)) (j + 1)
 ranged-more {s} {i} {used} {t₀} {j = j} c h free lo hi kind r g l {t′} w =
     let e : i + j + 1 ≡ i + (j + 1) = omega arith in

@@ -34,12 +34,12 @@ use Rattle.wire.specs.Heads.{HeadIs, wrapOf}
 use Rattle.fill.specs.Containers.{copiesOf, closedItems}
 use Rattle.fill.specs.Texts.{OnlyChars}
 use Rattle.fill.proofs.ContainerLaws.{opened, opened-run, closed-none}
-use Rattle.fill.proofs.TextLaws.{chars-string}
 use Rattle.wire.proofs.Stretches.{chars-say, padding-says, between-from}
 use lib.Seq.{drop-drop}
 use Rattle.format.proofs.Parts.{rest-part}
 use Rattle.format.proofs.Over.{part-length}
 use Rattle.format.proofs.Runs.{upto-end, Passed, passed-none, passed-piece, ahead}
+use Rattle.format.proofs.ItemLaws.{chars-string}
 
 -- ---- strings joined and repeated
 all-append : (k : ℕ) (a b : List ℕ) → allOf k (a ++ b) ≡ both (allOf k a) (allOf k b)

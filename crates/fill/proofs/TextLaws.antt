@@ -8,7 +8,7 @@ use lib.ListN.{length, take, drop, length-append}
 use lib.Seq.{length-take-le}
 use Rattle.format.specs.Choice.{pick}
 use Rattle.format.specs.Bits.{wordsFor}
-use Rattle.format.specs.Items.{Items, allOf, kinds, isString}
+use Rattle.format.specs.Items.{Items, isString}
 use Rattle.format.specs.Tables.{count, codes, textWords}
 use Rattle.format.specs.Objects.{characters}
 use Rattle.format.specs.Messages.{Outcome, says, reads}
@@ -22,16 +22,12 @@ use Rattle.format.proofs.Choices.{clash}
 use Rattle.fill.proofs.Regions.{front-over, back-over, front-at, back-at}
 use Rattle.fill.proofs.Letters.{spelt-front}
 use Rattle.fill.proofs.ShortLaws.{chars-said}
+use Rattle.format.proofs.ItemLaws.{chars-string}
 
 pub chars-count : (c : List ℕ) → count (characters c) ≡ length c
 unfolding count characters
 chars-count [] = refl
 chars-count (b ∷ c) = ap suc (chars-count c)
-
-pub chars-string : (c : List ℕ) → isString (characters c) ≡ true
-unfolding isString allOf kinds characters
-chars-string [] = refl
-chars-string (b ∷ c) = chars-string c
 
 chars-few : (c : List ℕ) (len : ℕ) → length (textWords (characters c)) ≤ len → length c ≤ 8 * len
 unfolding wordsFor

@@ -9,7 +9,7 @@ use Rattle.format.specs.Items.{Items, end, join}
 use Rattle.format.specs.Tables.{count, rows, dataWords, rowWords}
 use Rattle.format.specs.Messages.{got, onto, reads, Outcome, refused, says}
 use Rattle.format.specs.Answers.{over}
-use Rattle.format.proofs.Counts.{words, rows-join, count-join, words-join, data-join, row-words-join}
+use Rattle.format.proofs.Counts.{words, rows-join, count-join, words-join, data-join, row-words-join, count-rows}
 use Rattle.format.proofs.TableLaws.{row-length}
 use Rattle.fill.specs.declared.plain.Placed.{Placed}
 use Rattle.fill.specs.Walks.{Fits, RunFits, ObjectFits, Laid, RunFilled, ObjectFilled}
@@ -18,7 +18,6 @@ use Rattle.format.specs.Lent.{overAt}
 use Rattle.format.proofs.Over.{over-next, at-none, at-next, part-length, back-length}
 use Rattle.fill.proofs.AgainLaws.{none-in}
 use Rattle.fill.proofs.Regions.{front-lent, back-out, back-in}
-use Rattle.fill.proofs.RowLaws.{count-rows}
 use Rattle.format.proofs.Runs.{upto-end, Passed, passed-none, passed-piece, passed-rest, Ahead, ahead}
 use Rattle.fill.proofs.LaidLaws.{laid-none, laid-long}
 

@@ -9,7 +9,7 @@ use Rattle.format.specs.Items.{Items, end, leaf, group}
 use Rattle.format.specs.Messages.{Outcome, refused, says, reads, outcome}
 use Rattle.format.specs.Tables.{count, rows, dataWords, rowWords, tableOf, wordsNeeded}
 use Rattle.format.specs.Answers.{over}
-use Rattle.format.proofs.Counts.{words}
+use Rattle.format.proofs.Counts.{words, count-rows}
 use Rattle.format.proofs.TableLaws.{row-length}
 use Rattle.fill.specs.declared.walk.Filled.{Filled}
 use Rattle.fill.specs.Walks.{RunFits, RunFilled}
@@ -17,7 +17,6 @@ use Rattle.fill.specs.Whole.{Roomy, ItemsPut, laidOut}
 use Rattle.format.specs.Lent.{overAt}
 use Rattle.format.proofs.Over.{at-front, at-none, at-length, part-length, lent}
 use Rattle.fill.proofs.Regions.{fronted}
-use Rattle.fill.proofs.RowLaws.{count-rows}
 
 -- the items that an accepted message says, and what is known of them
 pub record Seen (m : List ℕ) (r w : ℕ) (t : List ℕ) : Type 0 where

@@ -11,8 +11,8 @@ use Rattle.format.specs.Objects.{following}
 use Rattle.wire.specs.Heads.{OneRow}
 
 -- each of the bytes lo to hi is one item, whose row has the kind and then 0 and the place within the range
-abbrev pub Ranged : ℕ → ℕ → ℕ → Type 0
-Ranged lo hi kind = (b : ℕ) (s : List ℕ) → lo ≤ b → b ≤ hi → OneRow b s kind (b - lo) 0
+abbrev pub RowsInRange : ℕ → ℕ → ℕ → Type 0
+RowsInRange lo hi kind = (b : ℕ) (s : List ℕ) → lo ≤ b → b ≤ hi → OneRow b s kind (b - lo) 0
 
 -- b is an LINTEGER's type-byte that asks for k bytes
 abbrev pub LongOf : ℕ → ℕ → Type 0

@@ -4,7 +4,7 @@ ghost use Prim.Native.Nat.{_+_, _*_, _^_, _≤_, _<_};
 ghost use mathlib.Core.List.{_∷_, []};
 ghost use lib.ListN.{length};
 ghost use Rattle.format.specs.Lent.{overAt};
-ghost use Rattle.fill.specs.Stretch.{Ranged, LongOf, Stretched};
+ghost use Rattle.fill.specs.Stretch.{RowsInRange, LongOf, Stretched};
 use super::least::least;
 use format::Class;
 use format::kinds::BOOL;
@@ -51,7 +51,7 @@ fn put_one(table: &mut [u64], at: usize, i: usize, kind: u64, value: u64) -> Str
 // A row of the kind for each of the bytes lo to hi from i on, as many as there are and as the table has room for behind `used`
 // words.
 fn put_range(s: &[u8], i: usize, table: &mut [u64], used: usize, lo: u8, hi: u8, kind: u64) -> usize
-    requires { ⌜ (i ≤ length (now s)) × (used ≤ length (now table)) × Ranged lo hi kind ⌝ }
+    requires { ⌜ (i ≤ length (now s)) × (used ≤ length (now table)) × RowsInRange lo hi kind ⌝ }
     ensures { λ r. ⌜ Stretched (now (s .entry)) i used (now (table .entry)) (now (table .exit)) (i + r) r ⌝ }
 {
     let most = least(s.len() - i, (table.len() - used) / 3);

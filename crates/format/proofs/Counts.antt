@@ -1,5 +1,5 @@
 -- Rows, items, data words and kinds of lists of items, joined and repeated. Assumes nothing.
-use Prim.Native.Nat.{ℕ, zero, suc, _+_, _*_}
+use Prim.Native.Nat.{ℕ, zero, suc, _+_, _*_, _≤_}
 use mathlib.Core.Path.{_≡_, refl, sym, ap, _∙_}
 use mathlib.Core.List.{List, [], _∷_, _++_, append-assoc}
 use native.Mathlib.Nat.{suc-mul}
@@ -46,6 +46,13 @@ unfolding count join
 count-join end ys = omega arith
 count-join (leaf l xs) ys = omega (arith, count-join xs ys)
 count-join (group g c xs) ys = omega (arith, count-join xs ys)
+
+-- every item has a row, and some have more beneath
+pub count-rows : (xs : Items) → count xs ≤ rows xs
+unfolding count rows
+count-rows end = omega arith
+count-rows (leaf l xs) = omega (arith, count-rows xs)
+count-rows (group g c xs) = omega (arith, count-rows xs)
 
 pub data-join : (xs ys : Items) → dataWords (join xs ys) ≡ dataWords xs ++ dataWords ys
 unfolding dataWords groupWords join

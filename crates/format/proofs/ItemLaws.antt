@@ -3,16 +3,17 @@ use mathlib.Core.Path.{_≡_, refl, sym, ap, _∙_}
 use Prim.Native.Nat.{ℕ, zero, suc, _+_, _≤_, _<_, max}
 use native.Mathlib.Omega.{arith}
 use mathlib.Core.Bool.{true}
-use mathlib.Core.List.{[], _∷_, _++_, append-assoc}
+use mathlib.Core.List.{List, [], _∷_, _++_, append-assoc}
 use lib.ListN.{length, length-append}
 use lib.IntN.{pos, negsuc}
 use Rattle.format.specs.Choice.{both}
 use Rattle.format.specs.Bits.{num, packed, bytesFor}
-use Rattle.format.specs.Items.{Leaf, int, bits, char, bool, empty, xtra, Group, Items, end, leaf, group, join, times, properLeaf, properGroup, proper}
+use Rattle.format.specs.Items.{Leaf, int, bits, char, bool, empty, xtra, Group, Items, end, leaf, group, join, times, properLeaf, properGroup, proper, isString, allOf, kinds}
 use Rattle.format.specs.Tables.{isText, rows}
 use Rattle.format.specs.Normal.{normalSize, withSize, linteger, normalInt, sbitstr, normalBits, normalLeaf, groupByte, normal, depth}
 use Rattle.format.proofs.Choices.{both-left, both-right, both-true, byLt, byPick}
 use Rattle.format.proofs.Sizes.{size-pos, sized-length}
+use Rattle.format.specs.Objects.{characters}
 
 -- ---- what `proper` says of an item and of the rest, both ways
 pub leaf-proper : (l : Leaf) (xs : Items) → proper (leaf l xs) ≡ true → (properLeaf l ≡ true) × (proper xs ≡ true)
@@ -124,3 +125,9 @@ unfolding rows
 bytes-none end e = refl
 bytes-none (leaf l xs) e = absurd (omega (arith, rows-least (leaf l xs)))
 bytes-none (group g c xs) e = absurd (omega (arith, rows-least (group g c xs)))
+
+-- the characters of a STRING are a string
+pub chars-string : (c : List ℕ) → isString (characters c) ≡ true
+unfolding isString allOf kinds characters
+chars-string [] = refl
+chars-string (b ∷ c) = chars-string c

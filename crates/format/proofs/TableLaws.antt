@@ -20,7 +20,7 @@ use Rattle.format.proofs.BitLaws.{isOne-bit, spread-packed, spread-leng
 
 -- ---- how long a table is
 -- a string has no rows beneath it
-beneath-length : (t : Bool) (l : List ℕ) (n : ℕ) → length l ≡ 3 * n → length (pick t [] l) ≡ 3 * pick t 0 n
+pub beneath-length : (t : Bool) (l : List ℕ) (n : ℕ) → length l ≡ 3 * n → length (pick t [] l) ≡ 3 * pick t 0 n
 unfolding pick
 beneath-length true l n e = refl
 beneath-length false l n e = e

@@ -23,6 +23,7 @@ use Rattle.listing.specs.Lines.{decimal, signedDecimal, bitsColumn, leaf
 use Rattle.listing.specs.Listings.{textLimit}
 use Rattle.listing.proofs.Decimals.{count-most}
 use Rattle.listing.proofs.RowLines as rows-of
+use Rattle.format.proofs.Counts.{count-rows}
 
 signed-long : (z : ℤ) → mag z < 2 ^ 63 → length (signedDecimal z) ≤ 20
 unfolding signedDecimal
@@ -55,12 +56,6 @@ group-long edt n h = omega (arith, count-most 4 n (omega arith))
 line-long : (d : ℕ) (l : List ℕ) → d ≤ 16 → length (line d l) ≤ 3 + length l
 unfolding line
 line-long d l h = omega (arith, length-append (decimal d) (l ++ (newline ∷ [])), length-append l (newline ∷ []), count-most 1 d (omega arith))
-
-pub count-rows : (xs : Items) → count xs ≤ rows xs
-unfolding count rows
-count-rows end = omega arith
-count-rows (leaf l xs) = omega (arith, count-rows xs)
-count-rows (group g c xs) = omega (arith, count-rows xs)
 
 -- a character takes at most four bytes
 codes-long : (cs : List ℕ) → allLow cs ≡ true → length (codesColumn cs) ≤ 4 * length cs

@@ -17,7 +17,8 @@ use Rattle.listing.specs.Lines.{decimal, acceptedText, lines}
 use Rattle.listing.specs.Puts.{Wrote}
 use Rattle.listing.specs.Listings.{Listable, acceptedOf, textLimit}
 use Rattle.listing.proofs.Decimals.{count-most}
-use Rattle.listing.proofs.TextLengths.{count-rows, text-long}
+use Rattle.listing.proofs.TextLengths.{text-long}
+use Rattle.format.proofs.Counts.{count-rows}
 
 pub record TextReady (w : List ℕ) : Type 0 where
   pub items : Items

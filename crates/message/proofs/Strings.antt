@@ -19,7 +19,7 @@ use Rattle.format.specs.Answers.{reading, writing, unwritten}
 use Rattle.format.proofs.Choices.{whether, pick-yes, both-left, both-right, ifEq-yes, byEq, byLt}
 use Rattle.format.proofs.Counts.{count-times}
 use Rattle.format.proofs.BitLaws.{Below, bits-length, zero-adjusted, adjusted-bits, adjusted-byte, packed-at, spread-length}
-use Rattle.format.proofs.TableLaws.{by-chars, text-kind, other-kind, codes-length, text-length, characters-of}
+use Rattle.format.proofs.TableLaws.{text-kind, other-kind, codes-length, text-length, characters-of}
 use Rattle.table.specs.Rows.{kindAt, aAt, bAt, lands, dataTo}
 use Rattle.table.specs.InOrder.{allChars, kindOk, groupOk, bitsOk, lowWords, textOk, rowOk}
 use Rattle.table.proofs.Whole.{whole}
@@ -29,6 +29,7 @@ use Rattle.message.specs.Words.{Says, Accepted, IsTable, Unwritable, no-
 use Rattle.message.proofs.Cases.{items-of-table, JudgedFirst, judged, no-form, form}
 use Rattle.message.proofs.Demands.{accepted-exactly}
 use Rattle.message.proofs.ReadExactly.{reading-10}
+use Rattle.table.proofs.RunLaws.{string-flat}
 
 -- ---- the row
 -- "a string becomes one row of kind 9, a the number of characters, b its first data word": `d` data words come before it
@@ -179,13 +180,9 @@ high-code-refused w o p l k h =
 
 -- ---- 13
 -- "13 counts a string as a STRUC": it is one container, and none stands in it
-string-depth-none : (c : Items) → isString c ≡ true → depth c ≡ 0
-unfolding depth
-string-depth-none = by-chars (λ c. depth c ≡ 0) refl (λ l xs k e. e)
-
 pub string-depth : (c xs : Items) → isString c ≡ true → depth (group struc c xs) ≡ max 1 (depth xs)
 unfolding depth
-string-depth c xs h = ap (λ n. max (suc n) (depth xs)) (string-depth-none c h)
+string-depth c xs h = ap (λ n. max (suc n) (depth xs)) (string-flat c h)
 
 -- ---- "a repeat can make one of 131,072 characters": C2 07 C4 05 E3, a count of three bytes, 41
 so-many : ℕ → Items

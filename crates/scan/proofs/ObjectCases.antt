@@ -4,15 +4,13 @@ use native.Mathlib.Omega.{arith}
 use native.Mathlib.Numerals.{add-one}
 use mathlib.Core.Path.{_≡_, refl, sym, ap, ap₂, _∙_, subst}
 use mathlib.Core.List.{List}
-use lib.ListN.{length, take, drop, length-drop}
-use lib.Seq.{length-take-le}
-use Rattle.format.specs.Bits.{spread, bytesFor, wordsFor}
+use lib.ListN.{length, take, drop}
+use Rattle.format.specs.Bits.{bytesFor, wordsFor}
 use Rattle.format.specs.declared.fault.Fault.{Fault}
 use Rattle.format.specs.Refusals.{further}
 use Rattle.format.specs.Items.{Items, end, group, struc, one, bits}
 use Rattle.format.specs.Objects as O
 use Rattle.format.specs.Messages.{Outcome, around, object, reads}
-use Rattle.format.proofs.BitLaws.{spread-length, bytes-enough}
 use Rattle.format.proofs.Parts.{middle-part}
 use Rattle.format.proofs.Sizes.{contents-length}
 use Rattle.format.specs.Runs.{objectAt}
@@ -30,13 +28,9 @@ use Rattle.scan.proofs.SumLaws.{sum-none, sum-row, sum-bits, sum-text}
 use Rattle.scan.proofs.Closings.{closed-answer}
 use Rattle.scan.proofs.Told.{refused-run, accepted-run}
 use Rattle.format.proofs.Bounds.{HeadWithin, head-within, RunWithin, reads-within}
+use Rattle.wire.proofs.HeadLaws.{lbits-length}
 
 -- ---- the cases of a head, as the code has them
-from-length : (s : List ℕ) (a n : ℕ) → a + bytesFor n ≤ length s → length (bitsFrom s a n) ≡ n
-from-length s a n h =
-    let e : length (take (bytesFor n) (drop a s)) ≡ bytesFor n = length-take-le (bytesFor n) (drop a s) (omega (arith, length-drop a s)) in
-    length-take-le n (spread 8 (take (bytesFor n) (drop a s))) (omega (arith, spread-length 8 (take (bytesFor n) (drop a s)), bytes-enough n))
-
 module _ (d b : ℕ) (s : List ℕ) (r : Head) (t : HeadIs s r (O.headOf d b s)) where
   is : (x : Head) → r ≡ x → HeadIs s x (O.headOf d b s)
   is x e = subst (λ y. HeadIs s y (O.headOf d b s)) e t
@@ -80,7 +74,7 @@ module _ (d b : ℕ) (s : List ℕ) (r : Head) (t : HeadIs s r (O.headOf d b s))
   lbits-is a n u z h e f =
       let x = is (Lbits a n u) e in
       let g : (n + 63) / 64 ≤ 65536 = omega (arith, lbits-few a n u e) in
-      given (one (bits (bitsFrom s a n))) u z (x .0) (f ∙ sym (sum-bits (bitsFrom s a n) n (from-length s a n (omega (arith, x .1, x .2))) g))
+      given (one (bits (bitsFrom s a n))) u z (x .0) (f ∙ sym (sum-bits (bitsFrom s a n) n (lbits-length s a n (omega (arith, x .1, x .2))) g))
 
   pub text-fits : (a n : ℕ) → r ≡ Text a n → a + n ≤ length s
   text-fits a n e = is (Text a n) e .1

@@ -19,6 +19,7 @@ use Rattle.scan.specs.declared.summary.Summary.{Summary}
 use Rattle.scan.specs.Sums.{capWords, capRows, mixOf, lead, sumOf, nothingOf, elementOf, oneOf, textOf, plusOf, secondSum, secondPower, powerOf, containerOf, strucOf}
 use Rattle.scan.proofs.KindsMet.{mixed-none, mix-append, mix-again}
 use Rattle.scan.proofs.Leads.{lead-join, second-join, lead-times, second-times, struc-lead}
+use Rattle.format.proofs.ItemLaws.{chars-string}
 
 -- summaries by their components
 same-sum : (r r′ w w′ m m′ f f′ g g′ : ℕ) → r ≡ r′ → w ≡ w′ → m ≡ m′ → f ≡ f′ → g ≡ g′
@@ -84,15 +85,10 @@ unfolding rows characters
 text-rows [] = refl
 text-rows (b ∷ s) = ap suc (text-rows s)
 
-text-all : (s : List ℕ) → isString (characters s) ≡ true
-unfolding isString kinds characters
-text-all [] = refl
-text-all (b ∷ s) = text-all s
-
 pub sum-text : (s : List ℕ) (n : ℕ) → length s ≡ n → n ≤ 65536 → sumOf (group struc (characters s) end) ≡ textOf n
 sum-text s n e h =
     let m : capRows (rows (characters s)) ≡ n = omega (arith, text-rows s) in
-    sum-string (characters s) (text-all s) ∙ ap textOf m
+    sum-string (characters s) (chars-string s) ∙ ap textOf m
 
 -- ---- one list after another
 pub sum-join : (xs ys : Items) → sumOf (join xs ys) ≡ plusOf (sumOf xs) (sumOf ys)

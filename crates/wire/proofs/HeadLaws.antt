@@ -1,5 +1,5 @@
 -- What the code answers about an object is what its head means, class by class. Assumes nothing.
-use Prim.Native.Nat.{ℕ, zero, suc, _+_, _-_, _*_, _%_, _^_, _≤_, _<_}
+use Prim.Native.Nat.{ℕ, zero, suc, _+_, _-_, _*_, _/_, _%_, _^_, _≤_, _<_}
 use mathlib.Core.Path.{_≡_, refl, sym, ap, _∙_, subst}
 use mathlib.Core.Logic.{_≢_}
 use mathlib.Core.List.{List, [], _∷_}
@@ -20,7 +20,7 @@ use Rattle.format.specs.Tables.{leafA, leafB, leafWords}
 use Rattle.format.specs.Objects as O
 use Rattle.format.proofs.Choices.{ifLt-yes, ifLt-no, ifEq-yes, ifEq-no, split-eq}
 use Rattle.format.proofs.Digits.{bytes-take}
-use Rattle.format.proofs.BitLaws.{bit-isOne}
+use Rattle.format.proofs.BitLaws.{bit-isOne, spread-length}
 use Rattle.format.proofs.Parts.{middle-part, drop-take}
 use Rattle.format.proofs.Sizes.{contents-length}
 use Rattle.format.proofs.TypeBytes.{InClass, following-range}
@@ -296,3 +296,10 @@ module _ (d : ℕ) (s : List ℕ) (r : Contained) (x : ContainedIs d s r) where
 pub by-class : (d b : ℕ) (s : List ℕ) (r : Head) (c : Class) → c ≡ classOf b → HeadIs s r (O.headBy c d b s) → HeadIs s r (O.headOf d b s)
 unfolding O.headOf
 by-class d b s r c e h = subst (λ k. HeadIs s r (O.headBy k d b s)) e h
+
+-- an LBITSTR has the bits that it tells, where its bytes are there
+pub lbits-length : (s : List ℕ) (a n : ℕ) → a + bytesFor n ≤ length s → length (bitsFrom s a n) ≡ n
+unfolding bytesFor
+lbits-length s a n h =
+    let l : length (take ((n + 7) / 8) (drop a s)) ≡ (n + 7) / 8 = simp (length-take, length-drop) (omega arith) in
+    length-take-le n _ (omega (arith, spread-length 8 (take ((n + 7) / 8) (drop a s))))

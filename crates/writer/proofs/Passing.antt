@@ -17,6 +17,7 @@ use Rattle.table.proofs.Judging.{GroupKind, KindOk}
 use Rattle.table.proofs.RunLaws.{string-flat}
 use Rattle.writer.proofs.StringLaws.{string-size}
 use Rattle.writer.proofs.Lengths.{normal-bound, container-length}
+use Rattle.format.proofs.Counts.{count-rows}
 
 pub passed-none : (w : List ℕ) (D d u p : ℕ) → u ≤ D → RowsPassed w D d u p u p 0 0
 passed-none w D d u p h =
@@ -225,12 +226,6 @@ module _ (w : List ℕ) (R D : ℕ) (h : Header w R D) where
       let j = h .little in
       f .forth q end (record { stands = none-stands w v q (omega arith) (omega arith) (omega arith) (omega arith); fits = omega arith })
 
-  count-le : (xs : Items) → count xs ≤ rows xs
-  unfolding count rows
-  count-le end = omega arith
-  count-le (leaf l xs) = omega (arith, count-le xs)
-  count-le (group g c xs) = omega (arith, count-le xs)
-
   pub passed-bound : (d u p v q c n : ℕ) → q ≤ R → RowsPassed w D d u p v q c n → (n ≤ 458752) × (c ≤ q - p)
   unfolding count normal dataWords
   passed-bound d u p v q c n l f =
@@ -240,7 +235,7 @@ module _ (w : List ℕ) (R D : ℕ) (h : Header w R D) where
       let y = s .few in
       let t = s .little in
       let z = normal-bound (a .items) (s .good) (omega arith) (omega arith) in
-      (omega (arith, a .size), omega (arith, a .number, count-le (a .items)))
+      (omega (arith, a .size), omega (arith, a .number, count-rows (a .items)))
 
   -- the items are the only ones there
   pub alone-is : (d u p v q c n : ℕ) → (a : Alone d u p v q c n) → (xs : Items) → RowsPlaced w D u p q xs → xs ≡ a .items

@@ -230,13 +230,13 @@ module _ {w : List ℕ} {u p e : ℕ} (s : Survey w u p e) (k : kindAt w p ≡ 9
 
 -- ---- a container that is no string
 -- its row p, before e
-pub record Grouped (w : List ℕ) (u p e : ℕ) : Type 0 where
+pub record SurveyedGroup (w : List ℕ) (u p e : ℕ) : Type 0 where
   pub header : Headed w
   pub some : p < e
   pub kind : 7 ≤ kindAt w p
   pub plain : kindAt w p ≡ 9 → ⊥
 
-module _ {w : List ℕ} {u p e : ℕ} (s : Grouped w u p e) where
+module _ {w : List ℕ} {u p e : ℕ} (s : SurveyedGroup w u p e) where
   opened : (xs : Items) → RowsPlaced w (wordsOf w) u p e xs → Inside w (wordsOf w) u p e xs
   opened = inside w (wordsOf w) u p e (s .some) (s .kind) (s .plain)
 

@@ -11,7 +11,7 @@ use Rattle.table.specs.Rows.{wordsOf}
 use Rattle.writer.specs.Surveys.{RowsPassed}
 use Rattle.writer.proofs.NumberLaws.{size-most}
 use Rattle.writer.proofs.Passing.{passed-none, passed-bound}
-use Rattle.writer.proofs.Surveying.{Grouped, container-deepest, container-beyond, container-wrong, container-deep, container-kind, container-count, container-whole}
+use Rattle.writer.proofs.Surveying.{SurveyedGroup, container-deepest, container-beyond, container-wrong, container-deep, container-kind, container-count, container-whole}
 use Rattle.writer.proofs.Surveying.{run-wrong, run-deep, leaves-on, container-on}
 use Rattle.writer.proofs.survey.survey_container.Reads as survey-container
 use Rattle.writer.proofs.survey.survey_container.Kinds as survey-container-kinds
@@ -101,7 +101,7 @@ survey-container-survey-string-requires t c κs = let r = c .before .before .bef
 
 -- the row of a container that is no string
 grouped : (t : ℕ) (c : survey-container-of t survey-container-lts.Else1)
-    → Grouped (c .before .before .before .args .table .now) (c .before .before .before .args .base) (c .before .before .before .args .p) (c .before .before .before .args .to)
+    → SurveyedGroup (c .before .before .before .args .table .now) (c .before .before .before .args .base) (c .before .before .before .args .p) (c .before .before .before .args .to)
 grouped t c = let r = c .before .before .before .pre .1 in record { header = r .0 .0; some = r .1 .0; kind = r .0 .1; plain = c .if1 .left }
 
 survey-container-returns-2 : (t : ℕ) → survey-container-of t survey-container-lts.Need-returns-2
