@@ -267,6 +267,17 @@ static inline const char *msdtp_meaning(uint64_t number)
  * the contents need. Where so many more would bring the message over the limit,
  * as 65,536 always would, no bytes make it an accepted one. A message that ends
  * between two objects is whole: whether more are to come, its bytes do not tell.
+ *
+ * Two messages end to end are one message. As long as their bytes together are
+ * within MSDTP_BYTE_LIMIT,
+ *   - if both are accepted, and both words 0 of their tables together are within
+ *     MSDTP_ROW_LIMIT, and both words 3 within MSDTP_WORD_LIMIT, the whole is
+ *     accepted and says the first's items and then the second's. It takes the
+ *     words of both, less MSDTP_HEADER_WORDS. Its normal form is their normal
+ *     forms end to end, if those together are within MSDTP_BYTE_LIMIT;
+ *   - if the first is accepted and the second refused with 2 to 9, the whole is
+ *     refused with that number and `missing`, at the second's place plus the
+ *     first's length.
  */
 struct msdtp_reading {
     uint64_t number, place, words, missing;

@@ -84,6 +84,38 @@ pub struct Normalised {
 /// assert_eq!((&waits[..], words), (&[1, 9][..], 14));
 /// # Ok::<(), Refused>(())
 /// ```
+///
+/// # Two messages end to end
+///
+/// They are one message. As long as their bytes together are within
+/// [`BYTE_LIMIT`](crate::BYTE_LIMIT):
+///
+/// - If both are accepted, and together have no more rows than
+///   [`ROW_LIMIT`](crate::ROW_LIMIT) and data words than
+///   [`WORD_LIMIT`](crate::WORD_LIMIT), the whole is accepted and says the
+///   first's items and then the second's. It takes the words of both, less one
+///   header of four. Its normal form is their normal forms end to end, if those
+///   together are within the limit of bytes.
+/// - If the first is accepted and the second refused with 2 to 9, the whole is
+///   refused with that number and as many bytes missing, at the second's place
+///   plus the first's length.
+///
+/// ```
+/// use msdtp::{read, Refused};
+///
+/// let (first, second) = (&[0x81, 0x82], b"\xC6\x02HE");
+/// let mut table = [0; 16];
+/// let one = read(first, &mut table)?;
+/// let two = read(second, &mut table)?;
+/// let both = read(&[first, &second[..]].concat(), &mut table)?;
+/// assert_eq!(both.words, one.words + two.words - 4);
+///
+/// let cut = read(&second[..3], &mut table).unwrap_err();
+/// let whole = read(&[first, &second[..3]].concat(), &mut table).unwrap_err();
+/// assert_eq!((whole.number, whole.missing), (cut.number, cut.missing));
+/// assert_eq!(whole.place, cut.place + first.len());
+/// # Ok::<(), Refused>(())
+/// ```
 pub fn read(message: &[u8], table: &mut [u64]) -> Result<Read, Refused> {
     let answer = library::read(message, table);
     let words = answer.words as usize;

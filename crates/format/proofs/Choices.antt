@@ -107,7 +107,6 @@ pub both-true : (a b : Bool) → a ≡ true → b ≡ true → both a b ≡ true
 unfolding both
 both-true a b p q = rw p q
 
--- a number test that came out true
 -- a first test that decides both
 pub both-yes : (a b : Bool) → a ≡ true → both a b ≡ b
 unfolding both
@@ -121,6 +120,7 @@ both-no a b e = rw e refl
 pub clash : {X : Type 0} (b : Bool) → b ≡ true → b ≡ false → X
 clash b t f = let z : _≡_ {A = ℕ} 0 1 = cc in absurd (omega arith)
 
+-- a number test that came out true
 pub true-lt : (a b : ℕ) → ltb a b ≡ true → a < b
 true-lt a b e = ltb→lt a b (rw e tt)
 

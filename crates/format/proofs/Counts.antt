@@ -7,7 +7,7 @@ use native.Mathlib.Omega.{arith}
 use lib.ListN.{length, length-append}
 use Rattle.format.specs.Choice.{pick}
 use Rattle.format.specs.Items.{Items, end, leaf, group, join, times, leafKind, groupKind, kinds}
-use Rattle.format.specs.Tables.{count, rows, leafWords, dataWords, leafA, leafB, isText, rowKind, groupB, groupWords, rowWords}
+use Rattle.format.specs.Tables.{count, rows, leafWords, dataWords, leafA, leafB, isText, rowKind, groupB, groupWords, rowWords, wordsNeeded}
 
 -- ---- a repeat is its pattern, one time after another
 pub times-zero : (xs : Items) → times 0 xs ≡ end
@@ -72,6 +72,11 @@ words xs = length (dataWords xs)
 
 pub words-join : (xs ys : Items) → words (join xs ys) ≡ words xs + words ys
 words-join xs ys = ap length (data-join xs ys) ∙ length-append (dataWords xs) (dataWords ys)
+
+-- one header serves both
+pub needed-join : (xs ys : Items) → 4 + wordsNeeded (join xs ys) ≡ wordsNeeded xs + wordsNeeded ys
+unfolding wordsNeeded
+needed-join xs ys = omega (arith, rows-join xs ys, words-join xs ys)
 
 -- ---- repeated: a count that adds up over joins is multiplied
 module _ (f : Items → ℕ) (none : f end ≡ 0) (adds : (xs ys : Items) → f (join xs ys) ≡ f xs + f ys) where

@@ -17,12 +17,14 @@ pub mod TypeBytes
 -- ---- the head of an object
 pub mod Sizes
 pub mod HeadCases
--- ---- objects and runs: one step, where they end, piece by piece, faults, bytes more
+pub mod GrownHeads
+-- ---- objects and runs: one step, where they end, piece by piece, faults, bytes more and fewer
 pub mod Steps
 pub mod Bounds
 pub mod Runs
 pub mod Faults
 pub mod Growing
+pub mod Apart
 pub mod ReadProper
 -- ---- items and their tables
 pub mod ItemLaws

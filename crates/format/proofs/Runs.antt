@@ -208,10 +208,10 @@ module _ {d : ℕ} {s : List ℕ} {i : ℕ} {xs : Items} (v : Upto d s i xs) whe
         (omega arith, v .so-far ∙ ap (onto xs i) (here-next (bad f) e))
 
 -- ---- in a run that is accepted
-pub onto-said : (xs : Items) (i : ℕ) (o : Outcome) (all : Items) → onto xs i o ≡ says all → (zs : Items) × (all ≡ join xs zs)
+pub onto-says : (xs : Items) (i : ℕ) (o : Outcome) (all : Items) → onto xs i o ≡ says all → (zs : Items) × (o ≡ says zs) × (all ≡ join xs zs)
 unfolding onto
-onto-said xs i (refused f) all e = let z : _≡_ {A = ℕ} 0 1 = cc in absurd (omega arith)
-onto-said xs i (says zs) all e = (zs, cc)
+onto-says xs i (refused f) all e = let z : _≡_ {A = ℕ} 0 1 = cc in absurd (omega arith)
+onto-says xs i (says zs) all e = (zs, refl, cc)
 
 -- xs stand before i in a run that says `all`
 pub record Passed (d : ℕ) (s : List ℕ) (all xs : Items) (i : ℕ) : Type 0 where
@@ -225,7 +225,7 @@ pub passed-piece : {d : ℕ} {s : List ℕ} {all xs ys : Items} {i e : ℕ} → 
 passed-piece p b = record { said = p .said; upto = upto-piece (p .upto) b }
 
 pub passed-rest : {d : ℕ} {s : List ℕ} {all xs : Items} {i : ℕ} → Passed d s all xs i → (zs : Items) × (all ≡ join xs zs)
-passed-rest {d} {s} {all} {xs} {i} p = onto-said xs i (reads d (drop i s)) all (sym (p .upto .so-far) ∙ p .said)
+passed-rest {d} {s} {all} {xs} {i} p = let z = onto-says xs i (reads d (drop i s)) all (sym (p .upto .so-far) ∙ p .said) in (z .0, z .2)
 
 -- the object at i, and zs behind it
 pub record Ahead (d : ℕ) (s : List ℕ) (all xs : Items) (i b : ℕ) : Type 0 where

@@ -79,6 +79,10 @@ read-due m t xs f =
     ∙ ifLt-no rowLimit (rows xs) _ _ (f .few-rows) ∙ ifLt-no wordLimit (length (dataWords xs)) _ _ (f .few-words)
     ∙ ifLt-no (length t) (wordsNeeded xs) _ _ (f .room)
 
+pub read-fault : (m t : List ℕ) (f : Fault) → length m ≤ byteLimit → outcome m ≡ refused f → reading m t ≡ faulty f t
+unfolding reading readingOf
+read-fault m t f l e = ifLt-no byteLimit (length m) _ _ l ∙ ap (λ o. readingOf o t) e
+
 -- ---- writing
 -- a table is judged to be the table of some items exactly when it is
 pub items-of-table : (w : List ℕ) (xs : Items) → IsTable w xs → itemsOf w ≡ some xs

@@ -131,7 +131,7 @@ then-normal : (o : List ℕ) (r : Reading) (xs : Items) → r .number ≡ 0 → 
 unfolding thenWritten
 then-normal o r xs z i f = ifEq-yes (r .number) 0 _ _ z ∙ ap (readAnd r) (write-writable (r .table) o xs i f)
 
-normalised-whole : (m t o : List ℕ) (xs : Items) → Bytes m → Ready m xs t o
+pub normalised-whole : (m t o : List ℕ) (xs : Items) → Bytes m → Ready m xs t o
     → normalising m t o
     ≡ record {
       number = 0;

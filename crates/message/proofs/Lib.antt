@@ -5,6 +5,7 @@ pub mod WriteExactly
 pub mod OneCall
 pub mod NormaliseExactly
 pub mod Waiting
+pub mod Joining
 pub mod ReadCases
 pub mod WriteCases
 pub mod Strings

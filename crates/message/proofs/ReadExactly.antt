@@ -58,6 +58,13 @@ reading-2-to-9 m t f a b =
     parts : (g : Fault) → g ≡ f → (g .number ≡ f .number) × (g .place ≡ f .place) × (g .missing ≡ f .missing)
     parts g e = (ap (λ (y : Fault). y .number) e, ap (λ (y : Fault). y .place) e, ap (λ (y : Fault). y .missing) e)
 
+-- so with 2 to 9 the fault of the message is what the answer tells
+abbrev pub toldFault : Reading → Fault
+toldFault r = record { number = r .number; place = r .place; missing = r .missing }
+
+pub fault-told : (m t : List ℕ) → 2 ≤ reading m t .number → reading m t .number ≤ 9 → outcome m ≡ refused (toldFault (reading m t))
+fault-told m t a b = reading-2-to-9 m t (toldFault (reading m t)) a b .0 (refl, refl, refl) .1
+
 -- 10: "over 16,384 rows or 16,384 data words", when none of 1 to 9 is due
 pub reading-10 : (m t : List ℕ) → (reading m t .number ≡ 10) ↔ ((xs : Items) × (length m ≤ byteLimit) × Says m xs × OverLimits xs)
 reading-10 m t =

@@ -1,7 +1,7 @@
 -- Ask 2: "the desk cannot tell a late tail from a bad sheet". What the answer for a message says of it with bytes more behind:
 -- theorems about the function that the contract of the public operation cites, as in Demands.antt. Assumes nothing.
 use Prim.Native.Nat.{ℕ, _+_, _≤_, _<_}
-use mathlib.Core.Path.{_≡_, refl, sym, ap, _∙_, subst}
+use mathlib.Core.Path.{_≡_, refl, sym, _∙_, subst}
 use mathlib.Core.Logic.{_⊎_, inl, inr, ⊎-elim}
 use mathlib.Core.List.{List, _++_}
 use native.Mathlib.Omega.{arith}
@@ -9,27 +9,17 @@ use lib.ListN.{length, length-append}
 use Rattle.format.specs.declared.fault.Fault.{Fault}
 use Rattle.format.specs.Refusals.{byteLimit}
 use Rattle.format.specs.Items.{Items, join}
-use Rattle.format.specs.Messages.{Outcome, refused, says, onto, outcome}
+use Rattle.format.specs.Messages.{refused, outcome}
 use Rattle.format.specs.Tables.{rows, dataWords}
-use Rattle.format.specs.Answers.{Reading, faulty, readingOf, reading}
-use Rattle.format.proofs.Choices.{ifLt-no, split, split-eq}
+use Rattle.format.specs.Answers.{Reading, reading}
+use Rattle.format.proofs.Choices.{split, split-eq}
 use Rattle.format.proofs.Counts.{rows-join, words-join}
+use Rattle.format.proofs.Runs.{onto-says}
 use Rattle.format.proofs.Growing.{says-more, refused-more, waits}
 use Rattle.message.specs.Words.{Says, Accepted, NoneDue, OverLimits}
-use Rattle.message.proofs.Cases.{not-both, read-by}
-use Rattle.message.proofs.ReadExactly.{reading-2-to-9}
+use Rattle.message.proofs.Cases.{not-both, read-by, read-fault}
+use Rattle.message.proofs.ReadExactly.{toldFault, fault-told}
 use Rattle.message.proofs.Demands.{accepted-exactly}
-
--- the fault that an answer tells
-abbrev toldFault : Reading → Fault
-toldFault r = record { number = r .number; place = r .place; missing = r .missing }
-
-met : (m t : List ℕ) → 2 ≤ reading m t .number → reading m t .number ≤ 9 → outcome m ≡ refused (toldFault (reading m t))
-met m t a b = reading-2-to-9 m t (toldFault (reading m t)) a b .0 (refl, refl, refl) .1
-
-tells : (m t : List ℕ) (f : Fault) → length m ≤ byteLimit → outcome m ≡ refused f → reading m t ≡ faulty f t
-unfolding reading readingOf
-tells m t f l e = ifLt-no byteLimit (length m) _ _ l ∙ ap (λ o. readingOf o t) e
 
 -- The desk's wait. With 2, and fewer bytes more than are told missing, it is 2 at the same place again. So many fewer are told then,
 -- or where 65,536 were told, which may be more, at the least so many.
@@ -39,32 +29,24 @@ pub late-tail : (m e t u : List ℕ) → reading m t .number ≡ 2 → length e 
     × (reading m t .missing < byteLimit → reading m t .missing ≡ reading (m ++ e) u .missing + length e)
     × (reading m t .missing ≤ reading (m ++ e) u .missing + length e)
 late-tail m e t u n h l =
-    let x = waits m e (toldFault (reading m t)) (met m t (omega arith) (omega arith)) n h in
+    let x = waits m e (toldFault (reading m t)) (fault-told m t (omega arith) (omega arith)) n h in
     subst
     (λ (r : Reading).
     (r .number ≡ 2) × (r .place ≡ reading m t .place) × (reading m t .missing < byteLimit → reading m t .missing ≡ r .missing + length e)
     × (reading m t .missing ≤ r .missing + length e))
-    (sym (tells (m ++ e) u (x .0) l (x .1))) (x .2 .still, x .2 .there, x .2 .fewer, x .2 .least)
+    (sym (read-fault (m ++ e) u (x .0) l (x .1))) (x .2 .still, x .2 .there, x .2 .fewer, x .2 .least)
 
 -- A bad sheet. With 3 to 9, bytes that come later change nothing of the answer, whatever they are.
 pub bad-sheet : (m e t : List ℕ) → 3 ≤ reading m t .number → reading m t .number ≤ 9 → length (m ++ e) ≤ byteLimit → reading (m ++ e) t ≡ reading m t
 bad-sheet m e t a b l =
-    let f = met m t (omega arith) b in
-    tells (m ++ e) t (toldFault (reading m t)) l (refused-more m e (toldFault (reading m t)) f (omega arith))
-    ∙ sym (tells m t (toldFault (reading m t)) (omega (arith, length-append m e)) f)
+    let f = fault-told m t (omega arith) b in
+    read-fault (m ++ e) t (toldFault (reading m t)) l (refused-more m e (toldFault (reading m t)) f (omega arith))
+    ∙ sym (read-fault m t (toldFault (reading m t)) (omega (arith, length-append m e)) f)
 
 -- items that are over the limits stay so with more behind them
-onto-over : (xs zs : Items) (n : ℕ) (o : Outcome) → onto xs n o ≡ says zs → OverLimits xs → OverLimits zs
-unfolding onto
-onto-over xs zs n (refused f) e v = let z : _≡_ {A = ℕ} 0 1 = cc in absurd (omega arith)
-onto-over xs zs n (says ys) e v = go v
-  where
-    same : join xs ys ≡ zs
-    same = cc
-
-    go : OverLimits xs → OverLimits zs
-    go (inl h) = inl (subst (λ w. 16384 < rows w) same (omega (arith, rows-join xs ys)))
-    go (inr h) = inr (subst (λ w. 16384 < length (dataWords w)) same (omega (arith, words-join xs ys)))
+joined-over : (xs ys zs : Items) → zs ≡ join xs ys → OverLimits xs → OverLimits zs
+joined-over xs ys zs e (inl h) = inl (subst (λ w. 16384 < rows w) (sym e) (omega (arith, rows-join xs ys)))
+joined-over xs ys zs e (inr h) = inr (subst (λ w. 16384 < length (dataWords w)) (sym e) (omega (arith, words-join xs ys)))
 
 -- accepted; or for want of table words; or with 2, and no more than n bytes told missing
 abbrev Begins : ℕ → Reading → Type 0
@@ -79,8 +61,8 @@ module _ (m e : List ℕ) (n : ℕ) (zs : Items) (d : NoneDue (m ++ e) zs n) whe
 
   not-over : (xs : Items) → Says m xs → ¬ OverLimits xs
   not-over xs s v =
-      ⊎-elim (λ h. omega (arith, d .few-rows)) (λ h. omega (arith, d .few-words))
-      (onto-over xs zs (length m) (outcome e) (sym (says-more m e xs s) ∙ d .said) v)
+      let x = onto-says xs (length m) (outcome e) zs (sym (says-more m e xs s) ∙ d .said) in
+      ⊎-elim (λ h. omega (arith, d .few-rows)) (λ h. omega (arith, d .few-words)) (joined-over xs (x .0) zs (x .2) v)
 
   begins : (t : List ℕ) → Begins (length e) (reading m t)
   begins t =

@@ -78,3 +78,14 @@ pub data Asked (w : List ℕ) : Writing → Type 0 where
       → ((o : List ℕ) → length o ≡ length (normal xs) → writing w o ≡ record { number = 0; length = length o; output = normal xs })
       → Asked w (unwritten 15 (length (normal xs)) [])
   nothing : IsTable w end → Asked w (unwritten 0 0 [])
+
+-- Ask 8: "two messages are accepted, their lengths, rows and data words together are within the limits". They say xs and ys, and are
+-- accepted with the tables t and u.
+pub record Together (a b t u : List ℕ) (xs ys : Items) : Type 0 where
+  pub first : Accepted a t
+  pub second : Accepted b u
+  pub first-says : Says a xs
+  pub second-says : Says b ys
+  pub short : length a + length b ≤ byteLimit
+  pub few-rows : rows xs + rows ys ≤ rowLimit
+  pub few-words : length (dataWords xs) + length (dataWords ys) ≤ wordLimit

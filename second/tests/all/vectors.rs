@@ -11,16 +11,16 @@ const AMPLE_WORDS: usize = 65_540;
 const AMPLE_BYTES: usize = 65_536;
 
 /// All the vectors, and how many of them have each key.
-const ALL: usize = 1_471;
+const ALL: usize = 1_545;
 const KEYS: [(&str, usize); 11] = [
-    ("message", 1_124),
-    ("lent", 26),
-    ("read", 1_124),
-    ("items", 407),
-    ("table", 558),
-    ("room", 132),
-    ("normalise", 41),
-    ("normal", 501),
+    ("message", 1_198),
+    ("lent", 29),
+    ("read", 1_198),
+    ("items", 434),
+    ("table", 570),
+    ("room", 135),
+    ("normalise", 44),
+    ("normal", 534),
     ("list", 45),
     ("write", 347),
     ("bytes", 68),

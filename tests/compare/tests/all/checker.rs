@@ -47,6 +47,11 @@ impl Checker {
         self.table.library.lent()
     }
 
+    /// Whether the library left that table as it was.
+    pub fn table_is_kept(&self) -> bool {
+        self.table.library.is_kept_from(0)
+    }
+
     /// The output that the library was lent last, as it left it.
     pub fn output(&self) -> &[u8] {
         self.output.library.lent()

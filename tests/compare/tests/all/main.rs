@@ -55,6 +55,9 @@ mod normalising;
 mod normalising_pairs;
 
 mod format_page;
+mod joining;
+mod joining_limits;
+mod joining_pairs;
 mod kind_pairs;
 mod missing;
 mod missing_sizes;

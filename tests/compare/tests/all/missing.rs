@@ -20,7 +20,7 @@ const MOST_BYTES: usize = 65_536;
 pub const TOO_LITTLE: usize = 1;
 
 /// A message by chance: sound, damaged, hostile, or cut short.
-fn message(chance: &mut Chance) -> Vec<u8> {
+pub fn message(chance: &mut Chance) -> Vec<u8> {
     let mut message = match chance.below(4) {
         0 => hostile::message(chance),
         _ => makers::run(chance, 0),
