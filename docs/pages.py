@@ -66,7 +66,7 @@ The place that reading gives counts bytes from the start of the message, the fir
 
 With 2 and 3 reading, and with it normalising, also tells how many bytes are missing: from the faulty object's own size, or its fixed length, to the end that it passes; where its size field is not whole, the missing bytes of that field alone, and 1 if none of it is there; where a length or count is cut short, the missing bytes of that integer. 65,536 stands for so many or more. With every other number it is 0. sheetlist does not print it.
 
-Messages that were put end to end are read as one. If the last would be refused by itself with 2 to 9, and those before it are accepted, the whole is refused with the same number and as many bytes missing, and its place is that of the last alone and the length of those before it. With 3 to 9 it is so too where more stands behind it. With 2 it is not: the object that is cut takes the bytes of the next message for its own. The limits are for all of them together: 1 and 10 can be due for the whole where they are due for none.
+Messages that were put end to end are read as one. If the last would be refused by itself with 2 to 9, and those before it are accepted, the whole, if it has at most 65,536 bytes, is refused with the same number and as many bytes missing, and its place is that of the last alone and the length of those before it. With 3 to 9 it is so too where more stands behind it. With 2 it is not: the object that is cut takes the bytes of the next message for its own. The limits are for all of them together: 1 and 10 can be due for the whole where they are due for none.
 
 ## Which number, if several are due
 

@@ -7,7 +7,7 @@
 /* A message. */
 struct part {
     size_t length;
-    uint8_t bytes[8];
+    uint8_t bytes[35];
 };
 
 static const struct part sound[] = {
@@ -26,6 +26,8 @@ static const struct part faulty[] = {
     { 5, { 0xC2, 0x83, 0x02, 0x00, 0x00 } },
     { 4, { 0xC2, 0x02, 0xE2, 0x01 } },
     { 2, { 0xFF, 0xE8 } },
+    { 35, { 0xC2, 33, 0xC2, 31, 0xC2, 29, 0xC2, 27, 0xC2, 25, 0xC2, 23, 0xC2, 21, 0xC2, 19, 0xC2, 17,
+            0xC2, 15, 0xC2, 13, 0xC2, 11, 0xC2, 9, 0xC2, 7, 0xC2, 5, 0xC2, 3, 0xC2, 1, 0x80 } },
     { 2, { 0xF1, 0x00 } },
     { 4, { 0xC4, 0x02, 0x82, 0x80 } },
     { 4, { 0xC5, 0x02, 0x81, 0x41 } },
@@ -35,7 +37,7 @@ static const struct part faulty[] = {
 enum { SOUND = sizeof sound / sizeof *sound, FAULTY = sizeof faulty / sizeof *faulty };
 
 /* Puts two messages end to end, and returns their length. */
-static size_t send(const struct part *first, const struct part *second)
+static size_t put_together(const struct part *first, const struct part *second)
 {
     memcpy(message, first->bytes, first->length);
     memcpy(message + first->length, second->bytes, second->length);
@@ -63,13 +65,13 @@ static int sound_pair(const struct part *first, const struct part *second)
     all_rows = rows + table[0];
     all_items = items + table[1];
     all_words = words + table[3];
-    both = normalise(message, send(first, second));
+    both = normalise(message, put_together(first, second));
     return one.number == MSDTP_ACCEPTED && two.number == MSDTP_ACCEPTED
         && both.number == MSDTP_ACCEPTED
         && both.words == one.words + two.words - MSDTP_HEADER_WORDS
         && both.length == one.length + two.length && memcmp(output, forms, both.length) == 0
         && table[0] == all_rows && table[1] == all_items && table[3] == all_words
-        && accepted_read(send(first, second), both.words, both.words);
+        && accepted_read(put_together(first, second), both.words, both.words);
 }
 
 /* The second is refused: the whole alike, its place moved. */
@@ -79,12 +81,12 @@ static int faulty_pair(const struct part *first, const struct part *second)
         msdtp_read(second->bytes, second->length, table, MSDTP_TABLE_WORDS);
 
     return r.number >= MSDTP_PAST_INPUT && r.number <= MSDTP_BAD_EDT
-        && cut_read(send(first, second), r.number, first->length + r.place, r.missing);
+        && cut_read(put_together(first, second), r.number, first->length + r.place, r.missing);
 }
 
 void check_joining(void)
 {
-    int first, second, good = 1;
+    int first, second, good = 1, alike = 1, numbers = 0;
 
     for (first = 0; first < SOUND; first++) {
         for (second = 0; second < SOUND; second++) {
@@ -94,8 +96,13 @@ void check_joining(void)
     check("two accepted messages end to end", good);
     for (first = 0; first < SOUND; first++) {
         for (second = 0; second < FAULTY; second++) {
-            good = good && faulty_pair(&sound[first], &faulty[second]);
+            alike = alike && faulty_pair(&sound[first], &faulty[second]);
         }
     }
-    check("a refused message behind an accepted one", good);
+    check("a refused message behind an accepted one", alike);
+    for (second = 0; second < FAULTY; second++) {
+        numbers |= 1 << msdtp_read(faulty[second].bytes, faulty[second].length, table,
+                                   MSDTP_TABLE_WORDS).number;
+    }
+    check("refused with each number from 2 to 9", numbers == 0x3FC);
 }

@@ -31,8 +31,8 @@ int output_untouched(uint64_t from);
 
 /*
  * Reading and normalising the message are both refused and touch nothing, the
- * message neither. With refused_read no bytes are missing. With cut_read, which
- * is for 2 and 3, so many are, and the table lent is always long enough.
+ * message neither. With refused_read no bytes are missing. With cut_read so many
+ * are, and the table lent is always long enough.
  */
 int refused_read(size_t length, size_t room, uint64_t number, uint64_t place, uint64_t words);
 int cut_read(size_t length, uint64_t number, uint64_t place, uint64_t missing);

@@ -14,12 +14,19 @@ const SOUND: [&[u8]; 7] = [
     &[0xC3, 0x02, 0x81, 0x82],
 ];
 
+/// Seventeen STRUCs, one inside the other.
+const NEST: [u8; 35] = [
+    0xC2, 33, 0xC2, 31, 0xC2, 29, 0xC2, 27, 0xC2, 25, 0xC2, 23, 0xC2, 21, 0xC2, 19, 0xC2, 17, 0xC2,
+    15, 0xC2, 13, 0xC2, 11, 0xC2, 9, 0xC2, 7, 0xC2, 5, 0xC2, 3, 0xC2, 1, 0x80,
+];
+
 /// Messages that are refused with 2 to 9, some of them not at their front.
-const FAULTY: [&[u8]; 8] = [
+const FAULTY: [&[u8]; 9] = [
     &[0xC2],
     &[0x81, 0xC2, 0x83, 0x02, 0x00, 0x00],
     &[0xC2, 0x02, 0xE2, 0x01],
     &[0xFF, 0xE8],
+    &NEST,
     &[0xF1, 0x00],
     &[0xC4, 0x02, 0x82, 0x80],
     &[0xC5, 0x02, 0x81, 0x41],
@@ -57,10 +64,12 @@ fn accepted_ones_are_joined() {
 
 #[test]
 fn a_refused_one_is_refused_alike() {
+    let mut numbers = FAULTY.map(|message| refused(message).number).to_vec();
+    numbers.dedup();
+    assert!(numbers.into_iter().eq(2..=9));
     for first in SOUND {
         for second in FAULTY {
             let mut due = refused(second);
-            assert!((2..=9).contains(&due.number));
             due.place += first.len();
             assert_eq!(refused(&[first, second].concat()), due);
         }

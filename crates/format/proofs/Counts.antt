@@ -1,13 +1,13 @@
 -- Rows, items, data words and kinds of lists of items, joined and repeated. Assumes nothing.
 use Prim.Native.Nat.{ℕ, zero, suc, _+_, _*_, _≤_}
-use mathlib.Core.Path.{_≡_, refl, sym, ap, _∙_}
+use mathlib.Core.Path.{_≡_, refl, sym, ap, ap₂, _∙_}
 use mathlib.Core.List.{List, [], _∷_, _++_, append-assoc}
 use native.Mathlib.Nat.{suc-mul}
 use native.Mathlib.Omega.{arith}
 use lib.ListN.{length, length-append}
 use Rattle.format.specs.Choice.{pick}
 use Rattle.format.specs.Items.{Items, end, leaf, group, join, times, leafKind, groupKind, kinds}
-use Rattle.format.specs.Tables.{count, rows, leafWords, dataWords, leafA, leafB, isText, rowKind, groupB, groupWords, rowWords, wordsNeeded}
+use Rattle.format.specs.Tables.{count, rows, leafWords, dataWords, leafA, leafB, isText, rowKind, groupB, groupWords, rowWords, tableOf, wordsNeeded}
 
 -- ---- a repeat is its pattern, one time after another
 pub times-zero : (xs : Items) → times 0 xs ≡ end
@@ -107,3 +107,16 @@ row-words-join d (group g c xs) ys =
     ap (λ r. rowKind g c ∷ count c ∷ groupB d g c ∷ r)
     (ap (λ r. in-it ++ r) (row-words-join (d + w) xs ys ∙ ap (λ n. rowWords (d + w) xs ++ rowWords n ys) e)
     ∙ sym (append-assoc in-it (rowWords (d + w) xs) (rowWords (d + length (groupWords g c ++ dataWords xs)) ys)))
+
+-- ---- the table of a list: the rows of both, the second's with the first's data words before them, and then the data words of both
+pub table-join : (xs ys : Items)
+    → tableOf (join xs ys)
+    ≡ (rows xs + rows ys) ∷ (count xs + count ys) ∷ (4 + 3 * (rows xs + rows ys)) ∷ (words xs + words ys)
+    ∷ ((rowWords 0 xs ++ rowWords (words xs) ys) ++ (dataWords xs ++ dataWords ys))
+unfolding tableOf
+table-join xs ys =
+    let none : 0 + words xs ≡ words xs = omega arith in
+    let rs : rowWords 0 (join xs ys) ≡ rowWords 0 xs ++ rowWords (words xs) ys = row-words-join 0 xs ys ∙ ap (λ n. rowWords 0 xs ++ rowWords n ys) none in
+    ap (λ n. n ∷ count (join xs ys) ∷ (4 + 3 * n) ∷ words (join xs ys) ∷ (rowWords 0 (join xs ys) ++ dataWords (join xs ys))) (rows-join xs ys)
+    ∙ ap₂ (λ c w. (rows xs + rows ys) ∷ c ∷ (4 + 3 * (rows xs + rows ys)) ∷ w ∷ (rowWords 0 (join xs ys) ++ dataWords (join xs ys))) (count-join xs ys) (words-join xs ys)
+    ∙ ap₂ (λ r d. (rows xs + rows ys) ∷ (count xs + count ys) ∷ (4 + 3 * (rows xs + rows ys)) ∷ (words xs + words ys) ∷ (r ++ d)) rs (data-join xs ys)

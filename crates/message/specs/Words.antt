@@ -1,5 +1,6 @@
 -- The words of the demands, for the theorems in proofs/Demands.antt, of when each number is given (proofs/ReadExactly.antt,
--- WriteExactly.antt, NormaliseExactly.antt) and of the length alone (proofs/OneCall.antt).
+-- WriteExactly.antt, NormaliseExactly.antt), of the length alone (proofs/OneCall.antt) and of two messages end to end
+-- (proofs/Joining.antt).
 use Prim.Native.Nat.{ℕ, _+_, _*_, _≤_, _<_}
 use mathlib.Core.Path.{_≡_}
 use mathlib.Core.Logic.{_≢_, _⊎_}

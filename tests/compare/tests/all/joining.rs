@@ -23,12 +23,47 @@ pub struct Made {
 pub enum Rule {
     /// Both are accepted, together too, and their normal forms together as well.
     Joined,
-    /// The same, but no normal form is told of.
+    /// The same, but their normal forms together are too long.
     JoinedAlone,
     /// The first is accepted and the second refused with this number.
     Refused(u64),
     /// None: something is left open.
     Open,
+}
+
+/// How often each rule applied.
+#[derive(Default)]
+pub struct Tally {
+    pub joined: u64,
+    pub open: u64,
+    refused: [u64; 10],
+}
+
+impl Tally {
+    pub fn count(&mut self, rule: Rule) {
+        match rule {
+            Rule::Joined => self.joined += 1,
+            Rule::Refused(number) => self.refused[number as usize] += 1,
+            Rule::JoinedAlone | Rule::Open => self.open += 1,
+        }
+    }
+
+    /// Some were joined, and some refused.
+    pub fn must_have_both(&self) {
+        let Tally {
+            joined,
+            open,
+            refused,
+        } = self;
+        println!("{joined} joined, {open} open, refused by number {refused:?}");
+        assert!(*joined > 0 && refused.iter().any(|&times| times > 0));
+    }
+
+    /// The same, and with every number from 2 to 9.
+    pub fn must_be_whole(&self) {
+        self.must_have_both();
+        assert!(self.refused[2..].iter().all(|&times| times > 0));
+    }
 }
 
 pub fn made(checker: &mut Checker, message: &[u8]) -> Made {

@@ -3,7 +3,7 @@
 
 use crate::checker::Checker;
 use crate::hostile_messages::{messages, Size};
-use crate::joining::{join, joined, made, Rule};
+use crate::joining::{join, joined, made, Rule, Tally};
 use crate::objects::{bits, nest, repeat, sized};
 use crate::rooms::{AMPLE_BYTES, AMPLE_WORDS};
 use crate::small_stack::{in_small_stack, report};
@@ -181,6 +181,7 @@ fn faults_behind_long_ones() {
 fn hostile_ones() {
     let all = messages(Size::Quarter);
     let mut checker = Checker::new();
+    let mut tally = Tally::default();
     let mut cases = 0;
     in_small_stack(&mut checker, |checker| {
         let each: Vec<_> = all
@@ -190,10 +191,12 @@ fn hostile_ones() {
         let pairs = || all.iter().zip(&each);
         for (first, one) in pairs().filter(|(_, made)| made.reading.number == 0) {
             for (second, two) in pairs() {
-                joined(checker, (&first.message, one), (&second.message, two));
+                let (first, second) = (&first.message, &second.message);
+                tally.count(joined(checker, (first, one), (second, two)));
                 cases += 1;
             }
         }
     });
     report("joining_limits::hostile_ones", cases, &checker);
+    tally.must_have_both();
 }

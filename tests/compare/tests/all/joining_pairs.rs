@@ -5,39 +5,10 @@ use crate::chance::Chance;
 use crate::checker::Checker;
 use crate::damage::{damaged, TELLING};
 use crate::every::every_run;
-use crate::joining::{join, joined, made, Rule};
+use crate::joining::{join, joined, made, Tally};
 use crate::plain::items::{data_words, rows};
 use crate::small_stack::{by_chance, in_small_stack, report};
 use crate::{forms_by_chance, items_by_chance, makers, missing};
-
-/// How often each rule applied.
-#[derive(Default)]
-struct Tally {
-    joined: u64,
-    refused: [u64; 10],
-    open: u64,
-}
-
-impl Tally {
-    fn count(&mut self, rule: Rule) {
-        match rule {
-            Rule::Joined => self.joined += 1,
-            Rule::Refused(number) => self.refused[number as usize] += 1,
-            Rule::JoinedAlone | Rule::Open => self.open += 1,
-        }
-    }
-
-    /// Each rule applied, to every number from 2 to 9.
-    fn must_be_whole(&self) {
-        let Tally {
-            joined,
-            refused,
-            open,
-        } = self;
-        println!("{joined} joined, {open} open, refused by number {refused:?}");
-        assert!(*joined > 0 && refused[2..].iter().all(|&times| times > 0));
-    }
-}
 
 /// Whether the second program accepts a message, given a table.
 fn is_accepted(message: &[u8]) -> bool {
@@ -59,17 +30,17 @@ fn every_pair(test: &str, firsts: &[Vec<u8>], seconds: &[Vec<u8>]) {
     let mut tally = Tally::default();
     let accepted: Vec<_> = firsts.iter().filter(|first| is_accepted(first)).collect();
     in_small_stack(&mut checker, |checker| {
+        let ones: Vec<_> = accepted.iter().map(|first| made(checker, first)).collect();
         for second in seconds {
             let two = made(checker, second);
-            for &first in &accepted {
-                let one = made(checker, first);
-                tally.count(joined(checker, (first, &one), (second, &two)));
+            for (&first, one) in accepted.iter().zip(&ones) {
+                tally.count(joined(checker, (first, one), (second, &two)));
             }
         }
     });
     let cases = accepted.len() * seconds.len();
     report(test, cases as u64, &checker);
-    assert!(tally.joined > 0 && tally.refused[2] > 0);
+    tally.must_have_both();
 }
 
 #[test]
@@ -171,8 +142,7 @@ fn every_cut_behind_a_sound_one() {
             }
         },
     );
-    println!("{} joined, refused {:?}", tally.joined, tally.refused);
-    assert!(tally.joined > 0 && tally.refused[2] > 0);
+    tally.must_have_both();
 }
 
 /// Messages taken apart at every place: where what stands before it is accepted,
