@@ -268,6 +268,20 @@ static inline const char *msdtp_meaning(uint64_t number)
  * as 65,536 always would, no bytes make it an accepted one. A message that ends
  * between two objects is whole: whether more are to come, its bytes do not tell.
  *
+ * A message that is one object, as a sheet is, with no padding (FF) before or
+ * after it, and that is accepted when it is whole, is always known for one that
+ * was cut: each of its beginnings, from its first byte to all but its last, is 2
+ * at 0. `missing` is then exactly what was cut off. Only where the size field
+ * itself is cut it is what the field still wants: 1 with the type-byte alone,
+ * and then the rest of the field. So it is never more than was cut off, and
+ * whoever waits for `missing` bytes and reads again has the whole after three
+ * waits at the most. What msdtp_write makes of a table of one item is such a
+ * message. Behind accepted messages it is the same, the place being their
+ * length.
+ *
+ *   C6 82 00 02 48 45   "HE", its size in three bytes. Of its beginnings, 1 to 5
+ *                       bytes long, are missing 1, 2, 1, 2, 1
+ *
  * Two messages end to end are one message. As long as their bytes together are
  * within MSDTP_BYTE_LIMIT,
  *   - if both are accepted, and both words 0 of their tables together are within

@@ -7,7 +7,7 @@ cd "$(dirname "$0")/.." || exit 1
 program=target/bin/sheetlist
 second=second/target/release/second
 examples=6
-vectors=866
+vectors=1067
 unread='sheetlist: the sheet could not be read to its end; nothing is listed'
 unwritten='sheetlist: the listing could not be written'
 . tests/tally.sh

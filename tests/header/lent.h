@@ -58,11 +58,12 @@ int made_is_read(size_t words);
 /* msdtp_meaning as another translation unit has it. */
 const char *meaning_elsewhere(uint64_t number);
 
-/* The checks of tables.c, of strings.c, of writing.c, of missing.c, of joining.c and of limits.c. */
+/* The checks of tables.c, of strings.c, of writing.c, of missing.c, of cuts.c, of joining.c and of limits.c. */
 void check_tables(void);
 void check_strings(void);
 void check_writing(void);
 void check_missing(void);
+void check_cuts(void);
 void check_joining(void);
 void check_limits(void);
 

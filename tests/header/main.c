@@ -136,6 +136,7 @@ int main(int count, char **arguments)
     check_writing();
     check_reading();
     check_missing();
+    check_cuts();
     check_joining();
     check_one_kind();
     check_null();

@@ -85,6 +85,32 @@ pub struct Normalised {
 /// # Ok::<(), Refused>(())
 /// ```
 ///
+/// # A message that was cut
+///
+/// A message that is one object, as a sheet is, with no padding (FF) before or
+/// after it, and that is accepted when it is whole, is always known for one that
+/// was cut: each of its beginnings, from its first byte to all but its last, is
+/// refused with 2 at place 0. `missing` is then exactly what was cut off. Only
+/// where the size field itself is cut it is what the field still wants: 1 with
+/// the type-byte alone, and then the rest of the field. So it is never more than
+/// was cut off, and whoever waits for so many bytes and reads again has the whole
+/// after three waits at the most.
+///
+/// What [`write`] makes of a table of one item is such a message. Behind accepted
+/// messages it is the same, the place being their length.
+///
+/// ```
+/// use msdtp::read;
+///
+/// // The string "HE", its size in three bytes.
+/// let sheet = b"\xC6\x82\x00\x02HE";
+/// let cut = |left| read(&sheet[..left], &mut []).unwrap_err();
+/// for (left, missing) in [(1, 1), (2, 2), (3, 1), (4, 2), (5, 1)] {
+///     let refused = cut(left);
+///     assert_eq!((refused.number, refused.place, refused.missing), (2, 0, missing));
+/// }
+/// ```
+///
 /// # Two messages end to end
 ///
 /// They are one message. As long as their bytes together are within

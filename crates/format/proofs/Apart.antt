@@ -1,10 +1,11 @@
 -- An object by its own bytes alone: what stands behind it makes no difference to what it says, so that a run that says something is its
 -- objects one after another, each a run that says its own items. Assumes nothing.
-use Prim.Native.Nat.{ℕ, zero, suc, _+_, _≤_, _<_}
+use Prim.Native.Nat.{ℕ, zero, suc, _+_, _≤_}
 use native.Mathlib.Omega.{arith}
 use native.Mathlib.Nat.{le-refl}
 use mathlib.Core.Path.{_≡_, refl, sym, ap, _∙_, subst}
-use mathlib.Core.Logic.{inl, inr, _↔_}
+use mathlib.Core.Logic.{_↔_}
+use mathlib.Core.Option.{some}
 use mathlib.Core.List.{List, [], _∷_, _++_}
 use lib.ListN.{length, take, drop, length-drop, take-append-drop}
 use lib.Seq.{length-take-le, drop-length}
@@ -12,41 +13,17 @@ use Rattle.format.specs.Items.{Items, end, join, uniform, edtRule}
 use Rattle.format.specs.Objects as O
 use Rattle.format.specs.Messages.{Outcome, refused, says, Object, bad, got, closing, around, object, onto, next, reads}
 use Rattle.format.specs.Runs.{objectAt}
-use Rattle.format.proofs.Choices.{byPick, split}
+use Rattle.format.specs.Extents.{extentOf}
+use Rattle.format.proofs.Choices.{byPick}
 use Rattle.format.proofs.Counts.{join-end}
 use Rattle.format.proofs.Steps.{reads-nil, reads-cons}
 use Rattle.format.proofs.Runs.{onto-says}
 use Rattle.format.proofs.Bounds.{got-within}
-use Rattle.format.proofs.GrownHeads.{contents-grown, Beyond, HeadGrown, head-grown}
+use Rattle.format.proofs.Extents.{Ends, head-extent}
+use Rattle.format.proofs.GrownHeads.{contents-grown, head-own}
 use Rattle.format.proofs.Growing.{inside, reads-more}
 
--- ---- a head that ends within n bytes behind its type-byte
-abbrev Ends : ℕ → O.Head → Type 0
-Ends n (O.stop f) = ⊥
-Ends n (O.gives xs u) = u ≤ n
-Ends n (O.opens w h m) = h + m ≤ n
-
-not-beyond : (n k : ℕ) (x : O.Head) → 0 < k → Ends n x → ¬ Beyond (n + k) x
-not-beyond n k (O.stop f) p e b = e
-not-beyond n k (O.gives xs u) p e b = omega arith
-not-beyond n k (O.opens w h m) p e b = omega arith
-
--- one that ends within s is that of s alone
-head-alone : (d b : ℕ) (s t : List ℕ) → Ends (length s) (O.headOf d b (s ++ t)) → O.headOf d b s ≡ O.headOf d b (s ++ t)
-head-alone d b s t i = go (O.headOf d b s) (head-grown d b s t)
-  where
-    z : O.Head
-    z = O.headOf d b (s ++ t)
-
-    go : (x : O.Head) → HeadGrown d (length s) (length t) x z → x ≡ z
-    go (O.stop f) (inl k) = absurd (subst (Ends (length s)) (k .1) i)
-    go (O.stop f) (inr k) =
-        split (length t) (k .lack) (λ l. absurd (subst (Ends (length s)) (k .still l) i))
-        (λ l. absurd (not-beyond (length s) (k .lack) z (k .some) i (k .enough l)))
-    go (O.gives xs u) k = sym k
-    go (O.opens w h n) k = sym k
-
--- ---- an object, by the bytes that it has itself
+-- ---- an object ends with its extent
 closing-ends : (w : O.Wrap) (v : ℕ) (ys xs : Items) (u : ℕ) → closing w v ys ≡ got xs u → v ≡ u
 unfolding closing
 closing-ends O.as-struc v ys xs u = λ e. cc
@@ -59,21 +36,35 @@ unfolding around
 around-ends w h n (refused f) xs u e = let z : _≡_ {A = ℕ} 0 1 = cc in absurd (omega arith)
 around-ends w h n (says ys) xs u e = closing-ends w (h + n) ys xs u e
 
+got-ends : (d b : ℕ) (s : List ℕ) (xs : Items) (u : ℕ) → objectAt d b s ≡ got xs u → Ends u (O.headOf d b s)
+unfolding objectAt object
+got-ends d b s xs u q = go (O.headOf d b s) q
+  where
+    go : (x : O.Head) → object (inside d s) x ≡ got xs u → Ends u x
+    go (O.stop f) e = let z : _≡_ {A = ℕ} 0 1 = cc in absurd (omega arith)
+    go (O.gives ys v) e = cc
+    go (O.opens w h n) e = around-ends w h n (inside d s h n) xs u e
+
+-- by its type-byte and size alone: h bytes of size field, and n behind them
+pub got-extent : (d b : ℕ) (s : List ℕ) (xs : Items) (u : ℕ) → objectAt d b s ≡ got xs u
+    → (h : ℕ) × (n : ℕ) × (extentOf b s ≡ some (O.size h n)) × (h + n ≡ u)
+got-extent d b s xs u q = head-extent d b s u (got-ends d b s xs u q)
+
+-- ---- an object, by the bytes that it has itself
 -- one that ends within s is that of s alone
 own-bytes : (d b : ℕ) (s t : List ℕ) (xs : Items) (u : ℕ) → u ≤ length s → objectAt d b (s ++ t) ≡ got xs u → objectAt d b s ≡ got xs u
 unfolding objectAt object
 own-bytes d b s t xs u l q = go (O.headOf d b (s ++ t)) refl q
   where
-    same : (z : O.Head) → O.headOf d b (s ++ t) ≡ z → Ends (length s) z → O.headOf d b s ≡ z
-    same z e i = head-alone d b s t (subst (Ends (length s)) (sym e) i) ∙ e
+    same : O.headOf d b s ≡ O.headOf d b (s ++ t)
+    same = let x = got-extent d b (s ++ t) xs u q in head-own d b s t (x .0) (x .1) (x .2) (omega (arith, x .3))
 
     go : (z : O.Head) → O.headOf d b (s ++ t) ≡ z → object (inside d (s ++ t)) z ≡ got xs u → objectAt d b s ≡ got xs u
     go (O.stop f) e k = let z : _≡_ {A = ℕ} 0 1 = cc in absurd (omega arith)
-    go (O.gives ys v) e k = let i : v ≡ u = cc in ap (object (inside d s)) (same (O.gives ys v) e (omega arith)) ∙ k
+    go (O.gives ys v) e k = ap (object (inside d s)) (same ∙ e) ∙ k
     go (O.opens w h n) e k =
         let i : h + n ≡ u = around-ends w h n (inside d (s ++ t) h n) xs u k in
-        ap (object (inside d s)) (same (O.opens w h n) e (omega arith))
-        ∙ ap (λ c. around w h n (reads (suc d) c)) (sym (contents-grown s t h n (omega arith))) ∙ k
+        ap (object (inside d s)) (same ∙ e) ∙ ap (λ c. around w h n (reads (suc d) c)) (sym (contents-grown s t h n (omega arith))) ∙ k
 
 -- cut behind its last byte, an object is the same
 pub object-alone : (d b : ℕ) (s : List ℕ) (xs : Items) (u : ℕ) → objectAt d b s ≡ got xs u → objectAt d b (take u s) ≡ got xs u

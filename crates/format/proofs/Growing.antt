@@ -59,7 +59,7 @@ object-grown : (d b : ℕ) (s t : List ℕ) → ObjectGrown d (length t) (object
 unfolding objectAt object further
 object-grown d b s t = go (O.headOf d b s) (O.headOf d b (s ++ t)) (head-grown d b s t) (head-within d b s)
   where
-    go : (x z : O.Head) → HeadGrown d (length s) (length t) x z → HeadWithin d (length s) x → ObjectGrown d (length t) (object (inside d s) x) (object (inside d (s ++ t)) z)
+    go : (x z : O.Head) → HeadGrown d (length t) x z → HeadWithin d (length s) x → ObjectGrown d (length t) (object (inside d s) x) (object (inside d (s ++ t)) z)
     go (O.stop f) z (inl k) w = inl (k .0, ap (object (inside d (s ++ t))) (k .1))
     go (O.stop f) z (inr k) w = inr (0, k .lack, k .told, λ l. ap (object (inside d (s ++ t))) (k .still l))
     go (O.gives xs u) z k w = ap (object (inside d (s ++ t))) k

@@ -24,7 +24,7 @@ use Rattle.format.proofs.TypeBytes.{InClass, in-class, following-range}
 use Rattle.format.proofs.Shortest.{small-shortest, integer-shortest}
 
 -- ---- a leading integer lies within the bytes it was read from, and the normal one is not longer
-abbrev Led : List ℕ → Leading → Type 0
+abbrev pub Led : List ℕ → Leading → Type 0
 Led s absent = Unit {0}
 Led s (cutInt p k) = (p < length s) × (0 < k)
 Led s (found z u) = (u ≤ length s) × (Bytes s → length (normalInt z) ≤ u)
@@ -59,7 +59,7 @@ led-by Bool b s r g = tt
 led-by Empty b s r g = tt
 led-by Reserved b s r g = tt
 
-led : (s : List ℕ) → Led s (leading s)
+pub led : (s : List ℕ) → Led s (leading s)
 unfolding leading
 led [] = tt
 led (b ∷ s) = led-by (classOf b) b s (in-class b) (led s)

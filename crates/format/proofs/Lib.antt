@@ -17,6 +17,7 @@ pub mod TypeBytes
 -- ---- the head of an object
 pub mod Sizes
 pub mod HeadCases
+pub mod Extents
 pub mod GrownHeads
 -- ---- objects and runs: one step, where they end, piece by piece, faults, bytes more and fewer
 pub mod Steps
@@ -25,6 +26,7 @@ pub mod Runs
 pub mod Faults
 pub mod Growing
 pub mod Apart
+pub mod Cuts
 pub mod ReadProper
 -- ---- items and their tables
 pub mod ItemLaws
@@ -39,4 +41,5 @@ pub mod Minimal
 -- ---- what the asks claim, and the examples
 pub mod OneKind
 pub mod Fewer
+pub mod Single
 pub mod Examples

@@ -11,6 +11,7 @@ pub mod Messages
 pub mod Tables
 pub mod Normal
 pub mod Answers
+pub mod Extents
 pub mod Examples
 -- No meanings, but what contracts cite beside them: how the code numbers the classes, and the count by which it tells them; a run
 -- piece by piece; a lent slice that is written in part.

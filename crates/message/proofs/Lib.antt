@@ -6,6 +6,7 @@ pub mod OneCall
 pub mod NormaliseExactly
 pub mod Waiting
 pub mod Joining
+pub mod Cutting
 pub mod ReadCases
 pub mod WriteCases
 pub mod Strings

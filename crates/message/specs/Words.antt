@@ -1,6 +1,6 @@
 -- The words of the demands, for the theorems in proofs/Demands.antt, of when each number is given (proofs/ReadExactly.antt,
--- WriteExactly.antt, NormaliseExactly.antt), of the length alone (proofs/OneCall.antt) and of two messages end to end
--- (proofs/Joining.antt).
+-- WriteExactly.antt, NormaliseExactly.antt), of the length alone (proofs/OneCall.antt), of two messages end to end (proofs/Joining.antt)
+-- and of a message that was cut (proofs/Cutting.antt, whose other words are in the format's specs/Extents.antt).
 use Prim.Native.Nat.{ℕ, _+_, _*_, _≤_, _<_}
 use mathlib.Core.Path.{_≡_}
 use mathlib.Core.Logic.{_≢_, _⊎_}
@@ -12,7 +12,7 @@ use Rattle.format.specs.Items.{Items, end}
 use Rattle.format.specs.Messages.{says, outcome}
 use Rattle.format.specs.Tables.{rows, dataWords, tableOf, wordsNeeded, lawful}
 use Rattle.format.specs.Normal.{normal, depth}
-use Rattle.format.specs.Answers.{Writing, unwritten, Normalising, reading, writing}
+use Rattle.format.specs.Answers.{Reading, Writing, unwritten, Normalising, reading, writing}
 
 -- "A message says a list of items, found from its bytes alone."
 abbrev pub Says : List ℕ → Items → Type 0
@@ -90,3 +90,11 @@ pub record Together (a b t u : List ℕ) (xs ys : Items) : Type 0 where
   pub short : length a + length b ≤ byteLimit
   pub few-rows : rows xs + rows ys ≤ rowLimit
   pub few-words : length (dataWords xs) + length (dataWords ys) ≤ wordLimit
+
+-- Ask 13: "refused with 2 at place 0". So many bytes are told missing, and the table is as lent.
+abbrev pub cutAnswer : ℕ → List ℕ → Reading
+cutAnswer k u = record { number = 2; place = 0; words = 0; missing = k; table = u }
+
+-- How many bytes of a message are there once as many more have come as were told missing of its first k. Any table u was lent.
+abbrev pub arrived : List ℕ → ℕ → List ℕ → ℕ
+arrived m k u = k + reading (take k m) u .missing

@@ -11,7 +11,7 @@ use crate::small_stack::{by_chance, in_small_stack, report};
 use crate::{forms_by_chance, items_by_chance, makers, missing};
 
 /// Whether the second program accepts a message, given a table.
-fn is_accepted(message: &[u8]) -> bool {
+pub fn is_accepted(message: &[u8]) -> bool {
     second::read(message, &mut []).number == 11
 }
 
@@ -65,7 +65,7 @@ fn every_byte_with_longer_ones() {
 }
 
 /// A message that is accepted, of not too many rows and words.
-fn sound(chance: &mut Chance) -> Vec<u8> {
+pub fn sound(chance: &mut Chance) -> Vec<u8> {
     loop {
         let message = match chance.below(3) {
             0 => {

@@ -54,6 +54,8 @@ mod writing_small_tables;
 mod normalising;
 mod normalising_pairs;
 
+mod cuts;
+mod cuts_of_objects;
 mod format_page;
 mod joining;
 mod joining_limits;

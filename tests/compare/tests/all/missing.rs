@@ -6,12 +6,9 @@ use crate::chance::Chance;
 use crate::checker::Checker;
 use crate::damage::{damaged, TELLING};
 use crate::every::every_run;
-use crate::objects::{bits, sized};
-use crate::plain::items::{rows, Item};
 use crate::small_stack::{by_chance, in_small_stack, report};
-use crate::{forms_by_chance, hostile, items_by_chance, makers, told};
+use crate::{hostile, makers, told};
 use second::Reading;
-use std::slice;
 
 /// More missing bytes are told as these.
 pub const MOST: u64 = 65_536;
@@ -155,87 +152,6 @@ fn after_a_tail_by_chance() {
     );
     println!("by number {met:?}");
     assert!(met[2..=9].iter().all(|&times| times > 0), "{met:?}");
-}
-
-/// The bytes of an object's size field, none if its length is fixed.
-fn size_field(object: &[u8]) -> usize {
-    match object {
-        [0xC1..=0xC6, 0x80, ..] => 129,
-        [0xC1..=0xC6, first, ..] if *first > 0x80 => 1 + (first & 0x7F) as usize,
-        [0xC1..=0xC6, ..] => 1,
-        _ => 0,
-    }
-}
-
-/// A beginning of an accepted message of one object is refused with 2 at 0. One
-/// that keeps the whole size field tells exactly the bytes that are cut off,
-/// another those that the size field lacks. All beginnings are tried, or of long
-/// objects those within the size field, every so many, and the longest.
-fn every_cut(checker: &mut Checker, object: &[u8], step: usize) {
-    let head = 1 + size_field(object);
-    let tried = |&kept: &usize| kept <= head || kept % step == 0 || kept + 1 == object.len();
-    for kept in (1..object.len()).filter(tried) {
-        let answer = checker.reading(&object[..kept], TOO_LITTLE);
-        let missing = match kept {
-            _ if kept >= head => object.len() - kept,
-            1 => 1,
-            _ => head - kept,
-        };
-        let due = [2, 0, 0, missing as u64];
-        let told = [answer.number, answer.place, answer.words, answer.missing];
-        checker.must(told == due, || {
-            format!(
-                "{kept} bytes, {due:?} due, not {told:?}: {}",
-                told::bytes(object)
-            )
-        });
-    }
-}
-
-/// One object that says an item of not too many rows, in any form.
-fn object(chance: &mut Chance) -> Vec<u8> {
-    loop {
-        let items = items_by_chance::items(chance, 6);
-        let small = |item: &&Item| rows(slice::from_ref(item)) < 2_000;
-        if let Some(item) = items.iter().find(small) {
-            return forms_by_chance::object(chance, item, 0);
-        }
-    }
-}
-
-#[test]
-fn cuts_of_one_object() {
-    by_chance(
-        "missing::cuts_of_one_object",
-        15,
-        object,
-        |checker, object| {
-            let whole = checker.reading(object, TOO_LITTLE);
-            checker.must(whole.number == 11, || format!("{whole:?}"));
-            every_cut(checker, object, 1 + object.len() / 500);
-        },
-    );
-}
-
-/// Objects as long as a message can be.
-#[test]
-fn cuts_of_long_objects() {
-    let long = [
-        sized(0xC2, &[0xFF; 65_532]),
-        sized(0xC6, &[0x41; 16_000]),
-        sized(0xC3, &[&[0x81; 2][..], &[0xFF; 65_530]].concat()),
-        bits(524_224),
-        [&[0xC2, 0x80], &[0; 126][..], &[0xFE, 0xFF], &[0xFF; 65_279]].concat(),
-    ];
-    let mut checker = Checker::new();
-    in_small_stack(&mut checker, |checker| {
-        for object in &long {
-            let whole = checker.reading(object, TOO_LITTLE);
-            checker.must(whole.number == 11, || format!("{whole:?}"));
-            every_cut(checker, &object[..], 997);
-        }
-    });
-    report("missing::cuts_of_long_objects", long.len() as u64, &checker);
 }
 
 #[test]

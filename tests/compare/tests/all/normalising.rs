@@ -16,7 +16,7 @@ use std::hash::{DefaultHasher, Hash, Hasher};
 #[test]
 fn vectors() {
     let mut checker = Checker::new();
-    let vectors = with_key("message", 1_201);
+    let vectors = with_key("message", 1_452);
     in_both_stacks(&mut checker, |checker| {
         vectors
             .iter()

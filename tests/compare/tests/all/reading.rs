@@ -17,7 +17,7 @@ const NESTING: [u8; 12] = [
 #[test]
 fn vectors() {
     let mut checker = Checker::new();
-    let vectors = with_key("read", 1_201);
+    let vectors = with_key("read", 1_452);
     in_both_stacks(&mut checker, |checker| {
         vectors
             .iter()

@@ -77,11 +77,10 @@ fn measure_sheet() -> Vec<u8> {
     )
 }
 
-/// A batch of measure sheets whose last sheet lacks its last six bytes.
-fn sheets_cut_short() -> Vec<u8> {
-    let mut sheets = measure_sheet().repeat(700);
-    sheets.truncate(sheets.len() - 6);
-    sheets
+/// A message that lacks its last six bytes.
+fn cut_short(mut message: Vec<u8>) -> Vec<u8> {
+    message.truncate(message.len() - 6);
+    message
 }
 
 /// One object of each atomic class, so that no two neighbours are of one class.
@@ -215,6 +214,14 @@ fn sheets() -> Vec<Load> {
         load("six hundred of them", sheet_with_note().repeat(600)),
         load("one measure sheet", measure_sheet()),
         load("seven hundred of them", measure_sheet().repeat(700)),
-        load("the same, the last cut short", sheets_cut_short()),
+        load(
+            "the same, the last cut short",
+            cut_short(measure_sheet().repeat(700)),
+        ),
+        load("one measure sheet, cut short", cut_short(measure_sheet())),
+        load(
+            "a note of 60,000, cut short",
+            cut_short(sized(0xC5, &bytes(60_000, 0, 0x7F))),
+        ),
     ]
 }
