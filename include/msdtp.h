@@ -276,8 +276,8 @@ static inline const char *msdtp_meaning(uint64_t number)
  * and then the rest of the field. So it is never more than was cut off, and
  * whoever waits for `missing` bytes and reads again has the whole after three
  * waits at the most. What msdtp_write makes of a table of one item is such a
- * message. Behind accepted messages it is the same, the place being their
- * length.
+ * message. Behind a message that is accepted it is the same, the place being
+ * that one's length, as long as both are within MSDTP_BYTE_LIMIT.
  *
  *   C6 82 00 02 48 45   "HE", its size in three bytes. Of its beginnings, 1 to 5
  *                       bytes long, are missing 1, 2, 1, 2, 1

@@ -96,8 +96,9 @@ pub struct Normalised {
 /// was cut off, and whoever waits for so many bytes and reads again has the whole
 /// after three waits at the most.
 ///
-/// What [`write`] makes of a table of one item is such a message. Behind accepted
-/// messages it is the same, the place being their length.
+/// What [`write`] makes of a table of one item is such a message. Behind a message
+/// that is accepted it is the same, the place being that one's length, as long as
+/// both are within [`BYTE_LIMIT`](crate::BYTE_LIMIT).
 ///
 /// ```
 /// use msdtp::read;
