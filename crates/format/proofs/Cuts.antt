@@ -40,7 +40,7 @@ unfolding wanting
 wanting-field h k n p l = let z : k ≢ 1 = omega arith in ifLt-no h k _ _ l ∙ ifEq-no k 1 _ _ z
 
 -- some, and not more than are cut off
-pub wanting-some : (h k n : ℕ) → 0 < k → 0 < n → h < k + n → (0 < wanting h k n) × (wanting h k n ≤ n)
+wanting-some : (h k n : ℕ) → 0 < k → 0 < n → h < k + n → (0 < wanting h k n) × (wanting h k n ≤ n)
 wanting-some h k n p q l =
     split h k (λ g. rw (wanting-whole h k n g) (q, omega arith))
     (λ g. split 1 k (λ i. rw (wanting-field h k n i g) (omega arith, omega arith))
@@ -158,8 +158,13 @@ cut-outer b h n p e no-repeat x l =
 
 -- ---- a message that is one object
 -- its size field lies within it
-pub field-inside : (m c e : List ℕ) (h : ℕ) → OneObject m h → Cut m c e → h < length c + length e
-field-inside _ c e h (single b i n s y x r) k = omega (arith, ap length (k .parts), length-append c e)
+pub one-field : (m : List ℕ) (h : ℕ) → OneObject m h → h < length m
+one-field _ h (single b i n s y x r) = omega arith
+
+-- of a beginning some bytes are told missing, and never more than are cut off
+pub wanting-cut : (m c e : List ℕ) (h : ℕ) → OneObject m h → Cut m c e → (0 < wanting h (length c) (length e)) × (wanting h (length c) (length e) ≤ length e)
+wanting-cut m c e h o k =
+    wanting-some h (length c) (length e) (k .left) (k .lost) (omega (arith, one-field m h o, ap length (k .parts), length-append c e))
 
 -- "Every beginning of it that has at least one byte and is not the whole is refused with 2 at place 0."
 pub cut-outcome : (m c e : List ℕ) (h : ℕ) → OneObject m h → classOf (getD m 0 0) ≢ C.Repeat → Cut m c e

@@ -2,7 +2,7 @@
 use Prim.Native.Nat.{ℕ, suc, _+_, _-_, _≤_, _<_}
 use native.Mathlib.Omega.{arith}
 use mathlib.Core.Path.{_≡_, refl, sym, ap, _∙_, subst}
-use mathlib.Core.Logic.{_≢_}
+use mathlib.Core.Logic.{_≢_, _↔_}
 use mathlib.Core.Bool.{true}
 use mathlib.Core.Option.{Option, some}
 use mathlib.Core.List.{List, [], _∷_, _++_}
@@ -79,9 +79,20 @@ object-one b s xs u p q = go (classOf b) p q (class-tells-kind 0 b s xs u q)
     go C.Padding y e k = absurd (y refl)
     go C.Reserved y e k = absurd k
 
-pub one-item : (m : List ℕ) (h : ℕ) (xs : Items) → OneObject m h → outcome m ≡ says xs → count xs ≡ 1
+one-whole : (b h : ℕ) (s : List ℕ) (xs : Items) → OneObject (b ∷ s) h → outcome (b ∷ s) ≡ says xs → objectAt 0 b s ≡ got xs (length s)
 unfolding outcome
-one-item _ h xs (single b i n s y x r) q = object-one b s xs (length s) y (whole-object 0 b s xs h n x r q)
+one-whole b h s xs (single _ i n _ y x r) q = whole-object 0 b s xs h n x r q
+
+-- An accepted message that does not begin with padding is one object, by its bytes, exactly when its first object is read to its end.
+pub one-exactly : (b : ℕ) (s : List ℕ) (xs : Items) → classOf b ≢ C.Padding → outcome (b ∷ s) ≡ says xs
+    → ((h : ℕ) × OneObject (b ∷ s) h) ↔ (objectAt 0 b s ≡ got xs (length s))
+one-exactly b s xs p q = (
+  λ o. one-whole b (o .0) s xs (o .1) q,
+  λ e. let x = got-extent 0 b s xs (length s) e in (x .0, single b (x .0) (x .1) s p (x .2) (x .3)),
+)
+
+pub one-item : (m : List ℕ) (h : ℕ) (xs : Items) → OneObject m h → outcome m ≡ says xs → count xs ≡ 1
+one-item _ h xs (single b i n s y x r) q = object-one b s xs (length s) y (one-whole b h s xs (single b h n s y x r) q)
 
 -- contents behind a size field of h bytes, one at least
 abbrev pub SizedAs : List ℕ → ℕ → Type 0
@@ -144,8 +155,8 @@ class-form C.Padding b h n s xs u p x r q = p refl
 class-form C.Reserved b h n s xs u p x r q = let z : _≡_ {A = ℕ} 0 1 = cc in absurd (omega arith)
 
 pub one-form : (b h : ℕ) (s : List ℕ) (xs : Items) → OneObject (b ∷ s) h → outcome (b ∷ s) ≡ says xs → FormBy (classOf b) b s h
-unfolding outcome extentOf objectAt O.headOf
-one-form b h s xs (single _ i n _ y x r) q = class-form (classOf b) b h n s xs (length s) y x r (whole-object 0 b s xs h n x r q)
+unfolding extentOf objectAt O.headOf
+one-form b h s xs (single _ i n _ y x r) q = class-form (classOf b) b h n s xs (length s) y x r (one-whole b h s xs (single b h n s y x r) q)
 
 -- so an accepted one is no REPEAT
 pub one-no-repeat : (m : List ℕ) (h : ℕ) (xs : Items) → OneObject m h → outcome m ≡ says xs → classOf (getD m 0 0) ≢ C.Repeat

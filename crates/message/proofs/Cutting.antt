@@ -15,11 +15,11 @@ use Rattle.format.specs.Classes.{classOf}
 use Rattle.format.specs.Tables.{count, tableOf}
 use Rattle.format.specs.Normal.{normal}
 use Rattle.format.specs.Answers.{Reading, reading, Writing, writing, thenWritten, normalising}
-use Rattle.format.specs.Extents.{OneObject, single, Cut, Keeps, wanting}
+use Rattle.format.specs.Extents.{OneObject, Cut, Keeps, wanting}
 use Rattle.format.proofs.Choices.{split}
 use Rattle.format.proofs.TableLaws.{table-length, lawful-proper}
 use Rattle.format.proofs.Single.{one-item, one-no-repeat, normal-one}
-use Rattle.format.proofs.Cuts.{wanting-whole, wanting-first, wanting-field, wanting-some, field-inside, cut-outcome, then-there, then-fits, thrice}
+use Rattle.format.proofs.Cuts.{wanting-whole, wanting-first, wanting-field, one-field, wanting-cut, cut-outcome, then-there, then-fits, thrice}
 use Rattle.message.specs.Words.{Says, Accepted, cutAnswer, arrived}
 use Rattle.message.proofs.Cases.{not-both, read-by, read-fault}
 use Rattle.message.proofs.Demands.{accepted-exactly, accepted-table, written-exactly, written-normal}
@@ -29,17 +29,14 @@ use Rattle.message.proofs.Joining.{joined-refused}
 uncapped : (k n : ℕ) → k ≤ n → n ≤ byteLimit → min k byteLimit ≡ k
 uncapped k n p q = omega arith
 
-module _ (m c e u : List ℕ) (h : ℕ) (o : OneObject m h) (k : Cut m c e) where
-  told-some : (0 < wanting h (length c) (length e)) × (wanting h (length c) (length e) ≤ length e)
-  told-some = wanting-some h (length c) (length e) (k .left) (k .lost) (field-inside m c e h o k)
-
-  -- The whole answer, for any table lent, whether the message is accepted or not: an outermost REPEAT alone is refused by its type-byte.
-  pub cut-anyhow : length m ≤ byteLimit → classOf (getD m 0 0) ≢ Repeat → reading c u ≡ cutAnswer (wanting h (length c) (length e)) u
-  cut-anyhow short no-repeat =
-      let w = wanting h (length c) (length e) in
-      let l = ap length (k .parts) ∙ length-append c e in
-      read-fault c u (wants 2 w) (omega arith) (cut-outcome m c e h o no-repeat k)
-      ∙ ap (λ j. cutAnswer j u) (uncapped w (length e) (told-some .1) (omega arith))
+-- The whole answer, for any table lent, whether the message is accepted or not: an outermost REPEAT alone is refused by its type-byte.
+pub cut-anyhow : (m c e u : List ℕ) (h : ℕ) → OneObject m h → Cut m c e → length m ≤ byteLimit → classOf (getD m 0 0) ≢ Repeat
+    → reading c u ≡ cutAnswer (wanting h (length c) (length e)) u
+cut-anyhow m c e u h o k short no-repeat =
+    let w = wanting h (length c) (length e) in
+    let l = ap length (k .parts) ∙ length-append c e in
+    read-fault c u (wants 2 w) (omega arith) (cut-outcome m c e h o no-repeat k)
+    ∙ ap (λ j. cutAnswer j u) (uncapped w (length e) (wanting-cut m c e h o k .1) (omega arith))
 
 module _ (m c e t u : List ℕ) (h : ℕ) (accepted : Accepted m t) (o : OneObject m h) (k : Cut m c e) where
   -- "Every beginning of it that has at least one byte and is not the whole is refused with 2 at place 0." The whole answer, for any table
@@ -62,8 +59,7 @@ module _ (m c e t u : List ℕ) (h : ℕ) (accepted : Accepted m t) (o : OneObje
 
   -- So some are told, and never more than were cut off.
   pub cut-some : (0 < reading c u .missing) × (reading c u .missing ≤ length e)
-  cut-some =
-      subst (λ (r : Reading). (0 < r .missing) × (r .missing ≤ length e)) (sym cut-known) (told-some m c e u h o k)
+  cut-some = subst (λ (r : Reading). (0 < r .missing) × (r .missing ≤ length e)) (sym cut-known) (wanting-cut m c e h o k)
 
   -- Normalising is refused alike, and leaves the output as lent too.
   pub cut-unwritten : (p : List ℕ) → normalising c u p
@@ -75,12 +71,12 @@ module _ (m c e t u : List ℕ) (h : ℕ) (accepted : Accepted m t) (o : OneObje
   pub cut-batch : (a v w : List ℕ) → Accepted a v → length a + length c ≤ byteLimit
       → reading (a ++ c) w ≡ record { number = 2; place = length a; words = 0; missing = wanting h (length c) (length e); table = w }
   cut-batch a v w b l =
-      let n = ap (λ (r : Reading). r .number) cut-known in
-      let x : length a + reading c u .place ≡ length a = omega (arith, ap (λ (r : Reading). r .place) cut-known) in
+      let n : reading c u .number ≡ 2 = ap (λ (r : Reading). r .number) cut-known in
+      let z : length a + 0 ≡ length a = omega arith in
       let told : (i j k : ℕ) → Reading = λ i j k. record { number = i; place = j; words = 0; missing = k; table = w } in
       joined-refused a c v u w b (omega arith) (omega arith) l
-      ∙ ap (λ i. told i (length a + reading c u .place) (reading c u .missing)) n ∙ ap (λ j. told 2 j (reading c u .missing)) x
-      ∙ ap (told 2 (length a)) (ap (λ (r : Reading). r .missing) cut-known)
+      ∙ ap (λ (r : Reading). told (r .number) (length a + r .place) (r .missing)) cut-known
+      ∙ ap (λ j. told 2 j (wanting h (length c) (length e))) z
 
 -- An object of one byte has no such beginning.
 pub one-byte-uncut : (m c e : List ℕ) → length m ≡ 1 → ¬ Cut m c e
@@ -93,12 +89,6 @@ whole-none m u xs s =
     read-by m u (λ (r : Reading). r .missing ≡ 0) (λ h. refl) (λ f l e. absurd (not-both m xs f s e)) (λ ys l e h. refl) (λ ys d h. refl) (λ ys d. refl)
 
 module _ (m t : List ℕ) (h : ℕ) (accepted : Accepted m t) (o : OneObject m h) where
-  short-field : h < length m
-  short-field = go m o
-    where
-      go : (m : List ℕ) → OneObject m h → h < length m
-      go _ (single b i n s y x r) = omega arith
-
   arrived-is : (u : List ℕ) (k : ℕ) → 0 < k → k ≤ length m → arrived m k u ≡ then-there h (length m) k
   arrived-is u k p q =
       split k (length m)
@@ -112,17 +102,18 @@ module _ (m t : List ℕ) (h : ℕ) (accepted : Accepted m t) (o : OneObject m h
       let x = accepted-exactly m t .0 accepted in
       let e : take k m ≡ m = take-all k m l in
       let z : reading (take k m) u .missing ≡ 0 = ap (λ (c : List ℕ). reading c u .missing) e ∙ whole-none m u (x .0) (x .1 .said) in
-      omega (arith, wanting-whole h k (length m - k) (omega (arith, short-field))))
+      omega (arith, wanting-whole h k (length m - k) (omega (arith, one-field m h o))))
 
   -- The whole message is there after three waits at the most, from one byte on, whatever tables are lent.
   pub three-waits : (u v w : List ℕ) (k : ℕ) → 0 < k → k ≤ length m → arrived m (arrived m (arrived m k u) v) w ≡ length m
   three-waits u v w k p q =
       let l = length m in
       let i = then-there h l k in
-      let a = then-fits h l k p q short-field in
-      let b = then-fits h l i (a .0) (a .1) short-field in
+      let f = one-field m h o in
+      let a = then-fits h l k p q f in
+      let b = then-fits h l i (a .0) (a .1) f in
       ap (λ n. arrived m (arrived m n v) w) (arrived-is u k p q) ∙ ap (λ n. arrived m n w) (arrived-is v i (a .0) (a .1))
-      ∙ arrived-is w (then-there h l i) (b .0) (b .1) ∙ thrice h l k p q short-field
+      ∙ arrived-is w (then-there h l i) (b .0) (b .1) ∙ thrice h l k p q f
 
 -- ---- which messages these are
 -- One object says one item: the table's word 1, "the number of outermost items".

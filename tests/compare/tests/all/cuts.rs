@@ -66,17 +66,17 @@ fn missing(object: Extent, left: usize) -> u64 {
 
 /// So many bytes of an object behind others: 2 at its place, and nothing that is
 /// lent is changed, neither by reading nor by normalising.
-fn beginning(checker: &mut Checker, before: &[u8], object: &[u8], left: usize, room: usize) {
+fn beginning(checker: &mut Checker, before: &[u8], object: &[u8], left: usize) {
     let extent = one_object(object).expect("one object");
     let message = [before, &object[..left]].concat();
     let due = (2, before.len() as u64, 0, missing(extent, left));
-    let read = checker.reading(&message, room);
+    let read = checker.reading(&message, MORE);
     let kept = checker.table_is_kept();
     let told = (read.number, read.place, read.words, read.missing);
     checker.must(kept && told == due, || {
         format!("{due:?} due, not {told:?}: {}", told::bytes(&message))
     });
-    let made = checker.normalising(&message, room, room);
+    let made = checker.normalising(&message, MORE, MORE);
     let kept = checker.table_is_kept() && checker.output_is_kept_from(0);
     let told = (made.number, made.place, made.words, made.missing);
     checker.must(kept && told == due && made.length == 0, || {
@@ -92,14 +92,14 @@ fn tried(object: &[u8], extent: Extent) -> impl Iterator<Item = usize> {
     (1..length).filter(move |&left| left <= near || left % step == 0 || left + 1 == length)
 }
 
-/// Every beginning of a message of one object, by itself and, in a table of some
-/// room, behind another message that is accepted.
+/// Every beginning of a message of one object, by itself and behind another
+/// message that is accepted, in room that is enough for most of them when whole.
 pub fn every_beginning(checker: &mut Checker, before: &[u8], object: &[u8]) {
     let extent = one_object(object).expect("one object");
     for left in tried(object, extent) {
-        beginning(checker, &[], object, left, TOO_LITTLE);
+        beginning(checker, &[], object, left);
         if !before.is_empty() {
-            beginning(checker, before, object, left, MORE);
+            beginning(checker, before, object, left);
         }
     }
 }
