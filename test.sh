@@ -86,7 +86,7 @@ run() {
     local name=$1 kind=$2 start=$SECONDS status
     printf -- '---- %s: %s\n' "$name" "$3"
     shift 3
-    "$@" 2>&1 </dev/null | tee "$work/log" | grep -vE '^(fn|enum|struct) .*: proved$|note: large solution'
+    "$@" 2>&1 </dev/null | tee "$work/log" | grep -vE '^(fn|enum|struct) .*: proved$|note: (large solution|deriving)'
     status=${PIPESTATUS[0]}
     count "$kind" "$status"
     passed=$((passed + good))

@@ -60,9 +60,9 @@ def on_pages(blocks):
 
 ENGINEER_HEAD = """# The numbers, for the engineer
 
-A message that cannot be read whole, or a table that cannot be written whole, is refused with a number. **Nothing is guessed, and nothing is cut from a refused sheet.** The page for the person at the bench is [shears.html](shears.html). Both pages are written from [numbers.txt](numbers.txt) by `python3 docs/pages.py`.
+A message that cannot be read whole, a table that cannot be written whole, or a pair of tables that cannot be compared whole, is refused with a number. **Nothing is guessed, and nothing is cut from a refused sheet.** The page for the person at the bench is [shears.html](shears.html). Both pages are written from [numbers.txt](numbers.txt) by `python3 docs/pages.py`.
 
-The place that reading gives counts bytes from the start of the message, the first byte being 0. With 2 to 9 it is the type-byte of the faulty object, otherwise it is 0. Writing gives no place.
+The place that reading gives counts bytes from the start of the message, the first byte being 0. With 2 to 9 it is the type-byte of the faulty object, otherwise it is 0. Writing and comparing give no place.
 
 With 2 and 3 reading, and with it normalising, also tells how many bytes are missing: from the faulty object's own size, or its fixed length, to the end that it passes; where its size field is not whole, the missing bytes of that field alone, and 1 if none of it is there; where a length or count is cut short, the missing bytes of that integer. 65,536 stands for so many or more. With every other number it is 0. sheetlist does not print it.
 
@@ -74,10 +74,11 @@ Messages that were put end to end are read as one. If the last would be refused 
 - **At one object**: 4; 7 for an outermost REPEAT; 5; 2 or 3; 6 or 7; its contents; 8 or 9.
 - **Writing**: 12, 13, 14, 15, in this order.
 - **Normalising**: reading's numbers, then writing's.
+- **Comparing**: 12, for either table; then 16.
 
 ## Where a number can come from
 
-12 and 13 come of what the engine gives to write, never of a room's message. 14 and 15 come of that too, and of normalising a good message from a room.
+12 comes of what the engine gives to write or to compare, and 13 of what it gives to write, never of a room's message. 14 and 15 come of that too, and of normalising a good message from a room. 16 comes of comparing, also of tables that were read from good messages.
 """
 
 ENGINEER_FOOT = """

@@ -1,13 +1,14 @@
 /*
- * Messages of the MSDTP (RFC 713): reading, writing and normalising.
+ * Messages of the MSDTP (RFC 713): reading, writing, normalising and comparing.
  *
  *   msdtp_read       the bytes of a message to a table of its items
  *   msdtp_write      a table of items to the bytes of its normal form
  *   msdtp_normalise  the bytes of a message to the bytes of its normal form
+ *   msdtp_compare    two tables of items to a list of their differences
  *
  * Link with libmsdtp.a. Everything that a caller needs to know stands here, in
  * this order: lent buffers, numbers, limits and sizes, the table, the
- * operations, a complete example.
+ * operations, two complete examples.
  */
 
 #ifndef MSDTP_H
@@ -25,12 +26,13 @@ extern "C" {
  * with another must be compiled again. In 0.4.0 the answers' structures grew; in
  * 0.5.0 the function that told only a length went: lend msdtp_write an empty
  * output instead; in 0.6.0 a string became one row, with its characters in data
- * words: what makes or walks tables must be changed.
+ * words: what makes or walks tables must be changed; in 0.7.0 msdtp_compare came,
+ * and with it number 16: the other operations answer as they did in 0.6.0.
  */
 #define MSDTP_VERSION_MAJOR 0
-#define MSDTP_VERSION_MINOR 6
+#define MSDTP_VERSION_MINOR 7
 #define MSDTP_VERSION_PATCH 0
-#define MSDTP_VERSION "0.6.0"
+#define MSDTP_VERSION "0.7.0"
 
 /*
  * LENT BUFFERS
@@ -42,12 +44,13 @@ extern "C" {
  * them writes to is lent to another at the same time.
  *
  * A buffer is a pointer to its first element and its number of elements: bytes
- * of a message or an output, words of a table.
+ * of a message or an output, words of a table or a list.
  *   - An empty buffer may be null.
- *   - A table must be aligned as uint64_t is. Messages and outputs may begin
- *     anywhere.
+ *   - A table and a list must be aligned as uint64_t is. Messages and outputs may
+ *     begin anywhere.
  *   - Buffers lent to one call may not overlap, and nobody else may change them
- *     while it runs.
+ *     while it runs. Only the two tables lent to msdtp_compare, both const, may
+ *     overlap or be the same one.
  *   - A buffer lent as const is never changed. What the others hold afterwards
  *     is told with each operation, for every answer. What they held before
  *     makes no difference to the answer.
@@ -72,6 +75,7 @@ typedef char msdtp_size_t_has_64_bits[sizeof(size_t) == 8 ? 1 : -1];
  * msdtp_write gives 0 and 12 to 15, looked for in this order.
  * msdtp_normalise gives 0 to 11 as reading does, then 14 and 15. What was read
  * is well formed and not too deep, so 12 and 13 are never due.
+ * msdtp_compare gives 0, 12 and 16: it looks for 12 in both tables, then for 16.
  */
 #define MSDTP_ACCEPTED 0
 #define MSDTP_TOO_LONG 1       /* the message is over MSDTP_BYTE_LIMIT */
@@ -91,10 +95,12 @@ typedef char msdtp_size_t_has_64_bits[sizeof(size_t) == 8 ? 1 : -1];
 #define MSDTP_BAD_EDT 9        /* EDT that breaks the EDT rule (see the table) */
 #define MSDTP_TOO_MANY 10      /* over MSDTP_ROW_LIMIT or MSDTP_WORD_LIMIT */
 #define MSDTP_TABLE_SHORT 11   /* the lent table is too short */
-#define MSDTP_NOT_A_TABLE 12   /* the table to write is not well formed */
+#define MSDTP_NOT_A_TABLE 12   /* a table to write or to compare is not well
+                                  formed */
 #define MSDTP_TOO_NESTED 13    /* a STRUC, string or EDT inside sixteen others */
 #define MSDTP_NORMAL_LONG 14   /* the normal form is over MSDTP_BYTE_LIMIT */
 #define MSDTP_OUTPUT_SHORT 15  /* the lent output is too short */
+#define MSDTP_LIST_SHORT 16    /* the lent list is too short */
 
 /* A number in plain words, for the person who is to be told. Never null. */
 static inline const char *msdtp_meaning(uint64_t number)
@@ -112,10 +118,11 @@ static inline const char *msdtp_meaning(uint64_t number)
     case 9: return "an EDT whose first two elements are not its type and its version";
     case 10: return "more than 16,384 rows, or more than 16,384 words of bits and strings";
     case 11: return "the table that was lent is too short";
-    case 12: return "what was given to write is no table of items";
+    case 12: return "what was given is no table of items";
     case 13: return "more than sixteen containers, one inside the other";
     case 14: return "the normal form would be longer than 65,536 bytes";
     case 15: return "the output that was lent is too short";
+    case 16: return "the list that was lent is too short";
     default: return "no number of the list";
     }
 }
@@ -134,8 +141,10 @@ static inline const char *msdtp_meaning(uint64_t number)
 
 #define MSDTP_HEADER_WORDS 4     /* words before the first row */
 #define MSDTP_ROW_WORDS 3        /* words of a row */
+#define MSDTP_DIFFERENCE_WORDS 2 /* words of an entry of msdtp_compare's list */
 #define MSDTP_TABLE_WORDS 65540  /* always enough for the table of a message */
 #define MSDTP_OUTPUT_BYTES 65536 /* always enough for a normal form */
+#define MSDTP_LIST_WORDS 32768   /* always enough for a list: 16,384 entries */
 
 /*
  * THE TABLE
@@ -222,6 +231,12 @@ static inline const char *msdtp_meaning(uint64_t number)
  * a spare bit or byte that is not 0, an EDT against the rule, fewer words than
  * the header tells. How deep it nests is not asked for there, but with 13, where
  * a string counts as the STRUC that it is.
+ *
+ * THE SAME ITEMS are two INTs, CHARs, BOOLs or XTRAs of one value; two EMPTYs;
+ * two BITS of as many bits, or two strings of as many characters, with the same
+ * ones in order, whatever data words they begin at; and two STRUCs, or two EDTs,
+ * with the same elements in order. Two well-formed tables are of the same items
+ * in the same order exactly when their words, up to the end of the data, are equal.
  */
 
 /*
@@ -347,6 +362,74 @@ struct msdtp_normalising msdtp_normalise(const uint8_t *message, size_t message_
                                          uint8_t *output, size_t output_len);
 
 /*
+ * Compares the items of two tables, and lists what is not the same. An entry of
+ * the list is two words, a row of the left table and a row of the right one. Rows
+ * are counted from 0.
+ *
+ * If the tables have different numbers of outermost items (their words 1), that
+ * is the one difference. Its entry is R of each table, left[0] and right[0]: the
+ * number after that of the last row, so that no other entry has it.
+ *
+ * Otherwise the items are matched by position, the first of the left with the
+ * first of the right, and so on.
+ *   - Two STRUCs, or two EDTs, with the same number of direct elements are gone
+ *     into: their elements are matched in the same way, at any depth. They have
+ *     no entry of their own.
+ *   - Any other two that are not the same are one difference. Its entry is the
+ *     rows of these two, and nothing beneath them is told.
+ * So there is one entry for two STRUCs, or two EDTs, with different numbers of
+ * direct elements; for a STRUC and an EDT, even of the same elements; for a string
+ * and another one, or anything else: a string has no rows beneath it and is never
+ * gone into.
+ *
+ * The entries stand in the order of the rows, of both tables at once: from one
+ * entry to the next both words grow. The words of an entry need not be equal:
+ * behind a difference whose two items have different numbers of rows beneath
+ * them, the same position is another row in each table.
+ *
+ *   ((1 2) 3) and (5 4)   rows 1, 1: (1 2) and 5; rows 4, 2: 3 and 4
+ *   (1 2) and (1 2 3)     rows 0, 0: two elements and three
+ *   1 2 and 1             rows 2, 1: two outermost items and one, R of each
+ *
+ * The list is empty exactly when both tables are of the same items in the same
+ * order, and so, where both have a normal form, exactly when they have the same.
+ * With left and right exchanged, number and `entries` are the same, and the two
+ * words of each entry are exchanged.
+ *
+ *   number   entries              the list
+ *   0        those of the list    its first MSDTP_DIFFERENCE_WORDS * entries
+ *                                 words are the entries, and all words after
+ *                                 them are as they were
+ *   12       0                    as it was
+ *   16       those needed         as it was
+ *
+ * It is 12 where either table is not well formed, or both are not, whatever the
+ * list. Any well-formed tables are compared, however deep they nest and however
+ * long their normal forms are: 13 and 14 are not given. Words past the data of a
+ * table are not looked at.
+ *
+ * The list lent decides only between 0 and 16: it is 16 exactly where it has room
+ * for fewer entries than there are. `entries` does not depend on it. One whose
+ * length is odd has room for the entries that fit, and its last word is never
+ * changed. So to ask whether anything differs, and in how many places, lend an
+ * empty list, null or not: the answer is 16 with their number or, for the same
+ * items, 0 with none.
+ *
+ * The usual way to compare is to lend what 16 tells until another number comes,
+ * as the second example does: MSDTP_DIFFERENCE_WORDS for each entry. As with
+ * writing, each call judges the tables as they then are, and this ends. A caller
+ * of fixed room may lend MSDTP_LIST_WORDS, which are always enough: no row of
+ * either table is in two entries.
+ */
+struct msdtp_comparing {
+    uint64_t number, entries;
+};
+
+struct msdtp_comparing msdtp_compare(const uint64_t *left, size_t left_len,
+                                     const uint64_t *right, size_t right_len,
+                                     uint64_t *list, size_t list_len);
+
+/*
  * AN EXAMPLE, COMPLETE
  *
  *     #include <inttypes.h>
@@ -467,6 +550,93 @@ struct msdtp_normalising msdtp_normalise(const uint8_t *message, size_t message_
  *       001010011
  *       left sleeve
  *     -5
+ */
+
+/*
+ * ANOTHER EXAMPLE, COMPLETE: WHAT CHANGED
+ *
+ *     #include <inttypes.h>
+ *     #include <stdio.h>
+ *     #include <stdlib.h>
+ *     #include "msdtp.h"
+ *
+ *     // An EDT of type 12 and version 1: a chest of 1016, a waist of 864, and a
+ *     // string, "cut". Then a chest of 1020, for the waist a STRUC of two figures,
+ *     // and another string, "cut on".
+ *     static const uint8_t sent[] = {
+ *         0xC3, 0x0D, 0x8C, 0x81, 0xE2, 0x03, 0xF8, 0xE2, 0x03, 0x60,
+ *         0xC6, 0x03, 'c', 'u', 't'
+ *     };
+ *     static const uint8_t sent_again[] = {
+ *         0xC3, 0x15, 0x8C, 0x81, 0xE2, 0x03, 0xFC,
+ *         0xC2, 0x06, 0xE2, 0x03, 0x60, 0xE2, 0x03, 0x66,
+ *         0xC6, 0x06, 'c', 'u', 't', ' ', 'o', 'n'
+ *     };
+ *     static uint64_t left[MSDTP_TABLE_WORDS], right[MSDTP_TABLE_WORDS];
+ *
+ *     // The usual way to compare. The caller frees the list after any answer. It
+ *     // is null if nothing was lent, as for the same items. 16 is left only where
+ *     // there is no memory for so many entries.
+ *     static struct msdtp_comparing compare_items(uint64_t **list)
+ *     {
+ *         *list = NULL;
+ *         struct msdtp_comparing c = msdtp_compare(left, MSDTP_TABLE_WORDS,
+ *                                                  right, MSDTP_TABLE_WORDS, NULL, 0);
+ *         while (c.number == MSDTP_LIST_SHORT) {
+ *             size_t words = MSDTP_DIFFERENCE_WORDS * c.entries;
+ *             uint64_t *longer = (uint64_t *)realloc(*list, words * sizeof *longer);
+ *             if (longer == NULL)
+ *                 break;
+ *             *list = longer;
+ *             c = msdtp_compare(left, MSDTP_TABLE_WORDS, right, MSDTP_TABLE_WORDS,
+ *                               longer, words);
+ *         }
+ *         return c;
+ *     }
+ *
+ *     // Prints what stands in a row: an INT's value, of anything else its kind.
+ *     static void print_row(const uint64_t *table, uint64_t row)
+ *     {
+ *         const uint64_t *at = table + MSDTP_HEADER_WORDS + MSDTP_ROW_WORDS * row;
+ *         if (at[0] == MSDTP_INT)
+ *             printf("row %" PRIu64 ", %" PRId64, row, (int64_t)at[2]);
+ *         else
+ *             printf("row %" PRIu64 ", kind %" PRIu64, row, at[0]);
+ *     }
+ *
+ *     int main(void)
+ *     {
+ *         struct msdtp_reading l = msdtp_read(sent, sizeof sent,
+ *                                             left, MSDTP_TABLE_WORDS);
+ *         struct msdtp_reading r = msdtp_read(sent_again, sizeof sent_again,
+ *                                             right, MSDTP_TABLE_WORDS);
+ *         if (l.number != MSDTP_ACCEPTED || r.number != MSDTP_ACCEPTED)
+ *             return 1;
+ *         uint64_t *list;
+ *         struct msdtp_comparing c = compare_items(&list);
+ *         printf("%s: %" PRIu64 " entries\n", msdtp_meaning(c.number), c.entries);
+ *         for (uint64_t i = 0; c.number == MSDTP_ACCEPTED && i < c.entries; i++) {
+ *             const uint64_t *entry = list + MSDTP_DIFFERENCE_WORDS * i;
+ *             if (entry[0] == left[0]) {
+ *                 printf("%" PRIu64 " outermost items; then %" PRIu64 "\n",
+ *                        left[1], right[1]);
+ *             } else {
+ *                 print_row(left, entry[0]);
+ *                 printf("; then ");
+ *                 print_row(right, entry[1]);
+ *                 putchar('\n');
+ *             }
+ *         }
+ *         free(list);
+ *         return c.number != MSDTP_ACCEPTED;
+ *     }
+ *
+ * This one prints:
+ *
+ *     accepted: 3 entries
+ *     row 3, 1016; then row 3, 1020
+ *     row 4, 864; then row 4, kind 7
+ *     row 5, kind 9; then row 7, kind 9
  */
 
 #ifdef __cplusplus

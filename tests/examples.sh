@@ -1,11 +1,13 @@
 #!/usr/bin/env bash
-# Builds the example for C and the one for Rust, runs each on every message of examples/, and compares what it prints and its
-# exit status with what is stored in examples/c/expected and bindings/rust/expected. The archive is that of target/staticlib, or
-# of the folder that MSDTP_LIB_DIR names. The last line is 'N passed, M failed', and the exit status is 0 only when nothing
-# failed.
+# Builds the examples for C and those for Rust and runs them on the messages of examples/. Each 'measure' is run on every message,
+# and what it prints and its exit status are compared with what is stored in examples/c/expected and bindings/rust/expected. Both
+# 'changes' are run on every two messages and print the same with the same exit status, which for some pairs is stored in
+# examples/changes. The archive is that of target/staticlib, or of the folder that MSDTP_LIB_DIR names. The last line is 'N passed,
+# M failed', and the exit status is 0 only when nothing failed.
 set -u
 crate=msdtp
-messages=6
+messages=8
+pairs=9
 cd "$(dirname "$0")/.." || exit 1
 archive=lib$crate.a
 library=$(cd "${MSDTP_LIB_DIR:-target/staticlib}" 2>/dev/null && pwd)
@@ -13,41 +15,79 @@ library=$(cd "${MSDTP_LIB_DIR:-target/staticlib}" 2>/dev/null && pwd)
 . tests/tally.sh
 
 build_c() {
-    gcc -std=c99 -O2 -Wall -Wextra -pedantic -Werror -Iinclude examples/c/measure.c "$library/$archive" -o "$folder/measure"
+    gcc -std=c99 -O2 -Wall -Wextra -pedantic -Werror -Iinclude "examples/c/$1.c" "$library/$archive" -o "$folder/$1"
 }
 
+# run_c EXAMPLE FILE..
 run_c() {
-    "$folder/measure" "$1"
+    "$folder/$1" "${@:2}"
 }
 
+# cargo_example COMMAND EXAMPLE ARGUMENT..
 cargo_example() {
-    cargo "$1" --quiet --release --offline --locked --manifest-path bindings/rust/Cargo.toml --example measure "${@:2}"
+    cargo "$1" --quiet --release --offline --locked --manifest-path bindings/rust/Cargo.toml --example "$2" "${@:3}"
 }
 
+# run_rust EXAMPLE FILE..
 run_rust() {
-    cargo_example run -- "$1"
+    cargo_example run "$1" -- "${@:2}"
+}
+
+# with_status COMMAND..: what the command prints, its exit status after it.
+with_status() {
+    "$@"
+    printf 'exit status %s\n' "$?"
 }
 
 # compare EXPECTED COMMAND..: the command prints what is stored, its exit status after it.
 compare() {
-    local expected=$1
-    shift
-    "$@" >"$folder/printed"
-    printf 'exit status %s\n' "$?" >>"$folder/printed"
-    diff "$expected" "$folder/printed"
+    with_status "${@:2}" >"$folder/printed"
+    diff "$1" "$folder/printed"
+}
+
+# alike OLD NEW: the changes between two messages, in C and in Rust.
+alike() {
+    with_status run_c changes "$1" "$2" >"$folder/changes.c"
+    grep -qE '^exit status [012]$' "$folder/changes.c" && compare "$folder/changes.c" run_rust changes "$1" "$2"
+}
+
+# trouble LANGUAGE FILE..: exit status 2, a word about it on standard error, and nothing on standard output.
+trouble() {
+    with_status "run_$1" changes "${@:2}" >"$folder/printed" 2>"$folder/said"
+    [ -s "$folder/said" ] && [ "$(cat "$folder/printed")" = 'exit status 2' ]
 }
 
 if [ -z "$library" ] || [ ! -f "$library/$archive" ]; then
     lacking "The archive $archive is not there. Build it with rt staticlib $crate, or set MSDTP_LIB_DIR to its folder."
 fi
-check 'C example: build' build_c
-check 'Rust example: build' cargo_example build
+for example in measure changes; do
+    check "C example $example: build" build_c "$example"
+    check "Rust example $example: build" cargo_example build "$example"
+done
 met=0
 for message in examples/*.msg; do
     met=$((met + 1))
     name=$(basename "$message" .msg)
-    check "C example: $name" compare "examples/c/expected/$name.txt" run_c "$message"
-    check "Rust example: $name" compare "bindings/rust/expected/$name.txt" run_rust "$message"
+    check "C example: $name" compare "examples/c/expected/$name.txt" run_c measure "$message"
+    check "Rust example: $name" compare "bindings/rust/expected/$name.txt" run_rust measure "$message"
+    for other in examples/*.msg; do
+        check "changes from $message to $other: alike in C and Rust" alike "$message" "$other"
+    done
 done
 check "$messages messages, $met met" [ "$met" -eq "$messages" ]
+met=0
+for expected in examples/changes/*.txt; do
+    met=$((met + 1))
+    name=$(basename "$expected" .txt)
+    for language in c rust; do
+        check "changes in $language: $name" compare "$expected" "run_$language" changes "examples/${name%.*}.msg" "examples/${name#*.}.msg"
+    done
+done
+check "$pairs pairs, $met met" [ "$met" -eq "$pairs" ]
+for language in c rust; do
+    check "changes in $language: no files" trouble "$language"
+    check "changes in $language: one file" trouble "$language" examples/note.msg
+    check "changes in $language: three files" trouble "$language" examples/note.msg examples/note.msg examples/note.msg
+    check "changes in $language: no such file" trouble "$language" examples/note.msg examples/none.msg
+done
 end

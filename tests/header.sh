@@ -1,6 +1,6 @@
 #!/usr/bin/env bash
 # Checks include/msdtp.h: that it declares the archive's functions and no others; and, as C99 and as C++, that it compiles by
-# itself, that the example in it compiles and prints what it says there, and that what it tells holds of the archive
+# itself, that both examples in it compile and print what it says there, and that what it tells holds of the archive
 # (tests/header). The archive is that of target/staticlib, or of the folder that MSDTP_LIB_DIR names. The last line is 'N passed,
 # M failed', and the exit status is 0 only when nothing failed.
 set -u
@@ -31,9 +31,9 @@ functions() {
     test -s "$folder/declared" && nm -g --defined-only "$archive" | sed -nE 's/^.* T (msdtp_[a-z_]+)$/\1/p' | sort | diff "$folder/declared" -
 }
 
-# The example of the header prints what the header says that it prints.
+# An example of the header prints what the header says that it prints.
 example() {
-    compile "$1" "$folder/example.c" -x none "$archive" -o "$folder/example" && "$folder/example" | diff "$folder/prints" -
+    compile "$1" "$folder/$2.c" -x none "$archive" -o "$folder/$2" && "$folder/$2" | diff "$folder/$2.prints" -
 }
 
 # Runs the checks of tests/header and counts its lines; one that ends otherwise than its lines say is a failure.
@@ -51,12 +51,16 @@ run_checks() {
 version=$(sed -nE 's/^version = "(.*)"$/\1/p' bindings/rust/Cargo.toml)
 printf '#include "msdtp.h"\n#include "msdtp.h"\n' >"$folder/alone.c"
 lines_after 'AN EXAMPLE' 'It prints' >"$folder/example.c"
-lines_after 'It prints' 'END' | sed '/^$/d' >"$folder/prints"
+lines_after 'It prints' 'END' | sed '/^$/d' >"$folder/example.prints"
+lines_after 'ANOTHER EXAMPLE' 'This one prints' >"$folder/another.c"
+lines_after 'This one prints' 'END' | sed '/^$/d' >"$folder/another.prints"
 check 'the functions of the header and of the archive' functions
-check 'the example prints something' test -s "$folder/prints"
+check 'the example prints something' test -s "$folder/example.prints"
+check 'the other example prints something' test -s "$folder/another.prints"
 for language in C99 C++; do
     check "$language: alone" compile "$language" -c "$folder/alone.c" -o "$folder/alone.o"
-    check "$language: the example" example "$language"
+    check "$language: the example" example "$language" example
+    check "$language: the other example" example "$language" another
     rm -f "$folder/checks"
     check "$language: the checks are built" compile "$language" tests/header/*.c -x none "$archive" -o "$folder/checks"
     run_checks "$language"

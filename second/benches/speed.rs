@@ -1,7 +1,7 @@
-//! How long reading and writing take, by kind of message. To ask is to write
-//! with an empty output lent.
+//! How long reading, writing and comparing take, by kind of message. To ask is to
+//! write with an empty output lent; a message's table is compared with itself.
 
-use second::{normalise, read, write};
+use second::{compare, normalise, read, write};
 use std::hint::black_box;
 use std::time::Instant;
 
@@ -153,22 +153,24 @@ fn measure(load: &Load, calls: usize) {
     let both = shortest(calls, || {
         black_box(normalise(black_box(message), &mut table, &mut output));
     });
-    let units = load.units as f64;
-    println!(
-        "{:24} {:9} {:9.2} {:9.2} {:9.2} {:9.2}",
-        load.name,
-        load.unit,
-        reading / units,
-        writing / units,
-        asking / units,
-        both / units
-    );
+    let given = &table[..words];
+    let comparing = shortest(calls, || {
+        black_box(compare(black_box(given), black_box(given), &mut []));
+    });
+    line(load, &[reading, writing, asking, both, comparing]);
+}
+
+/// Times for each unit.
+fn line(load: &Load, times: &[f64]) {
+    let each = |time: &f64| format!(" {:9.2}", time / load.units as f64);
+    let times: String = times.iter().map(each).collect();
+    println!("{:24} {:9}{times}", load.name, load.unit);
 }
 
 fn main() {
     println!(
-        "{:24} {:9} {:>9} {:>9} {:>9} {:>9}",
-        "ns for a", "", "read", "write", "ask", "normalise"
+        "{:24} {:9} {:>9} {:>9} {:>9} {:>9} {:>9}",
+        "ns for a", "", "read", "write", "ask", "normalise", "compare"
     );
     let small = small_loads().into_iter().map(|load| (load, 50_000));
     let large = large_loads().into_iter().chain(loads_of_strings());

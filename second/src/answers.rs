@@ -27,6 +27,7 @@ pub const NOT_WELL_FORMED: u64 = 12;
 pub const ITEMS_TOO_DEEP: u64 = 13;
 pub const FORM_TOO_LONG: u64 = 14;
 pub const OUTPUT_TOO_SHORT: u64 = 15;
+pub const LIST_TOO_SHORT: u64 = 16;
 
 /// What reading answers: the words are those used with number 0, those needed
 /// with number 11, and otherwise 0. The missing bytes are those wanting with
@@ -56,6 +57,14 @@ pub struct Normalising {
     pub words: u64,
     pub length: u64,
     pub missing: u64,
+}
+
+/// What comparing answers: the entries are those listed with number 0, those
+/// needed with number 16, and otherwise 0.
+#[derive(Clone, Copy, Debug, PartialEq, Eq)]
+pub struct Comparing {
+    pub number: u64,
+    pub entries: u64,
 }
 
 /// A fault met in a message, at the offset of the faulty object's type-byte.

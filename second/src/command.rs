@@ -5,27 +5,30 @@
 //! | `read HEX WORDS` | `number N place P words W missing M stray S table WORD..` |
 //! | `write BYTES WORD..` | `number N length L stray S output HEX` |
 //! | `normalise HEX WORDS BYTES` | `number N place P words W length L missing M stray S table WORD.. output HEX` |
+//! | `compare WORDS WORD.. / WORD..` | `number N entries E stray S list ROW..` |
 //! | `list HEX` | `text` and the listing, each of its newlines as `\n` |
 //!
 //! HEX is a run of hexadecimal digits, two for each byte, or `-` for no bytes;
 //! all else is decimal. WORDS and BYTES are the room lent. A table is answered
 //! up to the words used, an output up to the length written; where nothing was
 //! to be written there are no words, and `-` for the output. `write 0 WORD..`
-//! asks the length alone. With numbers 2 and 3, `missing` tells how many bytes
-//! are wanting, at most 65,536; otherwise 0.
+//! asks the length alone. `compare` is given two tables with a `/` between them,
+//! and a list of so many words; the entries listed are two rows each. With
+//! numbers 2 and 3, `missing` tells how many bytes are wanting, at most 65,536;
+//! otherwise 0.
 //! The room is filled beforehand with numbers that say nothing; `stray` counts
 //! the words and bytes changed that should not have been. Anything else is
 //! answered with `error: ` and a help in one line.
 
 use crate::answers::{ACCEPTED, TABLE_TOO_SHORT};
-use crate::{listing, normalise, read, write};
+use crate::{compare, listing, normalise, read, write};
 use std::fmt::Write as _;
 
 /// The most words or bytes that a request may lend.
 const MOST_LENT: usize = 1 << 20;
 
 const HELP: &str = "read HEX WORDS | write BYTES WORD.. | normalise HEX WORDS BYTES | \
-                    list HEX (HEX is - for no bytes)";
+                    compare WORDS WORD.. / WORD.. | list HEX (HEX is - for no bytes)";
 
 /// The answer to one request, without a newline.
 pub fn answer(request: &str) -> String {
@@ -47,8 +50,11 @@ fn answer_to(request: &str) -> Result<String, String> {
             lent(words)?,
             lent(room)?,
         )),
+        ("compare", [list, tables @ ..]) => compare_request(lent(list)?, tables),
         ("list", [message]) => Ok(list_answer(&bytes(message)?)),
-        ("read" | "write" | "normalise" | "list", _) => Err(format!("{name} has other fields")),
+        ("read" | "write" | "normalise" | "compare" | "list", _) => {
+            Err(format!("{name} has other fields"))
+        }
         _ => Err("no such request".to_string()),
     }
 }
@@ -103,6 +109,30 @@ fn normalise_answer(message: &[u8], lent_words: usize, lent_bytes: usize) -> Str
     );
     let head = with_words(head, &table[..read]) + " output ";
     with_bytes(head, &output[..written])
+}
+
+fn compare_request(lent: usize, fields: &[&str]) -> Result<String, String> {
+    let mut tables = fields.split(|field| *field == "/");
+    match (tables.next(), tables.next(), tables.next()) {
+        (Some(left), Some(right), None) => Ok(compare_answer(lent, &words(left)?, &words(right)?)),
+        _ => Err("compare has two tables with one / between them".to_string()),
+    }
+}
+
+fn compare_answer(lent: usize, left: &[u64], right: &[u64]) -> String {
+    let mut list = poisoned_words(lent);
+    let comparing = compare(left, right, &mut list);
+    let used = if comparing.number == ACCEPTED {
+        2 * comparing.entries as usize
+    } else {
+        0
+    };
+    let stray = stray_words(&list[used..], used);
+    let head = format!(
+        "number {} entries {} stray {stray} list",
+        comparing.number, comparing.entries
+    );
+    with_words(head, &list[..used])
 }
 
 fn list_answer(message: &[u8]) -> String {

@@ -1,4 +1,4 @@
-//! Judging a table to write, and measuring its normal form.
+//! Judging a table, and measuring its normal form.
 
 use crate::answers::{
     FORM_TOO_LONG, ITEMS_TOO_DEEP, MOST_BYTES, MOST_DATA_WORDS, MOST_NESTED, MOST_ROWS,
@@ -28,6 +28,16 @@ pub fn judge(table: &[u64]) -> Result<(Parts<'_>, usize), u64> {
         return Err(FORM_TOO_LONG);
     }
     Ok((parts, length))
+}
+
+/// The parts of a table that is well formed, however deep it is nested.
+pub fn well_formed(table: &[u64]) -> Option<Parts<'_>> {
+    let parts = parts(table)?;
+    let sound = match measured(&parts) {
+        Ok(_) => true,
+        Err(number) => number == ITEMS_TOO_DEEP && deep::is_well_formed(&parts),
+    };
+    sound.then_some(parts)
 }
 
 /// The header's counts are held to the limits before anything is added up.

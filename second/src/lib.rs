@@ -3,7 +3,9 @@
 //! Reading scans a whole message and measures its table before a word of the
 //! lent table changes, then fills it. Writing judges a whole table and measures
 //! its normal form before a byte of the lent output changes, then writes it.
-//! Neither takes memory of its own beyond a small stack.
+//! Comparing judges two whole tables and counts their differences before a word
+//! of the lent list changes, then lists them.
+//! None of them takes memory of its own beyond a small stack.
 
 #![forbid(unsafe_code)]
 
@@ -11,6 +13,7 @@ mod answers;
 mod bits;
 mod classes;
 pub mod command;
+mod compare;
 mod copy;
 mod deep;
 mod emit;
@@ -29,8 +32,9 @@ mod strings;
 mod summary;
 mod write;
 
-pub use answers::{Normalising, Reading, Writing};
+pub use answers::{Comparing, Normalising, Reading, Writing};
 pub use answers::{MOST_BYTES, MOST_DATA_WORDS, MOST_MISSING, MOST_NESTED, MOST_ROWS};
+pub use compare::compare;
 pub use listing::{listing, LISTING_BYTES, LISTING_WORDS};
 pub use normal::normalise;
 pub use read::read;

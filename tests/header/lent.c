@@ -5,10 +5,10 @@
 
 #include "lent.h"
 
-uint64_t table[WORDS], made[WORDS];
+uint64_t table[WORDS], made[WORDS], other[WORDS], list[LIST];
 uint8_t message[BYTES], output[BYTES];
 int failed;
-int answered[MSDTP_OUTPUT_SHORT + 1];
+int answered[MSDTP_LIST_SHORT + 1];
 
 const char *meaning_elsewhere(uint64_t number)
 {
@@ -37,7 +37,12 @@ void refill(void)
     memset(output, FILLER, sizeof output);
 }
 
-/* Whether all bytes of a table or an output from one of them on are as filled. */
+void refill_list(size_t room)
+{
+    memset(list, FILLER, (room + MORE) * sizeof *list);
+}
+
+/* Whether all bytes of a buffer from one of them on are as filled. */
 static int untouched(const void *buffer, size_t from, size_t length)
 {
     const uint8_t *bytes = (const uint8_t *)buffer;
@@ -56,6 +61,11 @@ int table_untouched(uint64_t from)
 int output_untouched(uint64_t from)
 {
     return untouched(output, from, sizeof output);
+}
+
+int list_untouched(uint64_t from, size_t room)
+{
+    return untouched(list, from * sizeof *list, (room + MORE) * sizeof *list);
 }
 
 /* Reading and normalising both give this refusal, and every lent byte is as it was. */
@@ -137,4 +147,38 @@ int accepted_write(size_t words, size_t room, uint64_t length)
     return asked(words, length > 0 ? MSDTP_OUTPUT_SHORT : MSDTP_ACCEPTED, length)
         && output_untouched(0)
         && writes(words, output, room, MSDTP_ACCEPTED, length) && output_untouched(length);
+}
+
+/* Whether comparing into so much of a list answers this, and every word of both tables is as it was. */
+static int compares(size_t left, size_t right, uint64_t *to, size_t room, uint64_t number, uint64_t entries)
+{
+    static uint64_t one[WORDS], two[WORDS];
+    struct msdtp_comparing c;
+
+    memcpy(one, made, left * sizeof *one);
+    memcpy(two, other, right * sizeof *two);
+    c = msdtp_compare(made, left, other, right, to, room);
+    return is(c.number, number) && c.entries == entries
+        && memcmp(one, made, left * sizeof *one) == 0 && memcmp(two, other, right * sizeof *two) == 0;
+}
+
+/* Into so much of the filled list, and into null if that is none. */
+static int into_list(size_t left, size_t right, size_t room, uint64_t number, uint64_t entries)
+{
+    refill_list(room);
+    return (room > 0 || compares(left, right, NULL, 0, number, entries))
+        && compares(left, right, list, room, number, entries);
+}
+
+int refused_compare(size_t left, size_t right, size_t room, uint64_t number, uint64_t entries)
+{
+    return into_list(left, right, room, number, entries) && list_untouched(0, room);
+}
+
+int accepted_compare(size_t left, size_t right, size_t room, uint64_t entries, const uint64_t *due)
+{
+    const size_t words = MSDTP_DIFFERENCE_WORDS * entries;
+
+    return into_list(left, right, room, MSDTP_ACCEPTED, entries)
+        && memcmp(list, due, words * sizeof *due) == 0 && list_untouched(words, room);
 }

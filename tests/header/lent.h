@@ -11,15 +11,16 @@
 /* Buffers are lent with some room more, filled beforehand. */
 enum { MORE = 8, FILLER = 0xA5 };
 enum { WORDS = MSDTP_TABLE_WORDS + MORE, BYTES = MSDTP_BYTE_LIMIT + MORE };
+enum { LIST = MSDTP_LIST_WORDS + 2 * MORE };
 
-extern uint64_t table[WORDS], made[WORDS];
+extern uint64_t table[WORDS], made[WORDS], other[WORDS], list[LIST];
 extern uint8_t message[BYTES], output[BYTES];
 
 /* Whether a check failed. */
 extern int failed;
 
-/* The numbers from 0 to 15 that were answered as expected. */
-extern int answered[MSDTP_OUTPUT_SHORT + 1];
+/* The numbers from 0 to 16 that were answered as expected. */
+extern int answered[MSDTP_LIST_SHORT + 1];
 
 /* Prints a check's line. */
 void check(const char *name, int good);
@@ -28,6 +29,10 @@ void check(const char *name, int good);
 void refill(void);
 int table_untouched(uint64_t from);
 int output_untouched(uint64_t from);
+
+/* The same of a list of which so many words are lent: of these and some more. */
+void refill_list(size_t room);
+int list_untouched(uint64_t from, size_t room);
 
 /*
  * Reading and normalising the message are both refused and touch nothing, the
@@ -52,19 +57,28 @@ int refused_write(size_t words, size_t room, uint64_t number, uint64_t length);
  */
 int accepted_write(size_t words, size_t room, uint64_t length);
 
+/*
+ * Comparing the made table, as the left one, with the other, of so many words, is
+ * refused and touches nothing, or answers these entries and touches nothing past
+ * them. With no room the list is lent as null too.
+ */
+int refused_compare(size_t left, size_t right, size_t room, uint64_t number, uint64_t entries);
+int accepted_compare(size_t left, size_t right, size_t room, uint64_t entries, const uint64_t *due);
+
 /* Whether the table that was read is the made one, of so many words. */
 int made_is_read(size_t words);
 
 /* msdtp_meaning as another translation unit has it. */
 const char *meaning_elsewhere(uint64_t number);
 
-/* The checks of tables.c, of strings.c, of writing.c, of missing.c, of cuts.c, of joining.c and of limits.c. */
+/* The checks of tables.c, strings.c, writing.c, missing.c, cuts.c, joining.c, comparing.c and limits.c. */
 void check_tables(void);
 void check_strings(void);
 void check_writing(void);
 void check_missing(void);
 void check_cuts(void);
 void check_joining(void);
+void check_comparing(void);
 void check_limits(void);
 
 #endif

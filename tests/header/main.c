@@ -15,13 +15,16 @@ static void check_layout(const char *version)
     char parts[40];
 
     check("struct sizes", sizeof(struct msdtp_reading) == 32
-          && sizeof(struct msdtp_writing) == 16 && sizeof(struct msdtp_normalising) == 40);
+          && sizeof(struct msdtp_writing) == 16 && sizeof(struct msdtp_normalising) == 40
+          && sizeof(struct msdtp_comparing) == 16);
     sprintf(parts, "%d.%d.%d", MSDTP_VERSION_MAJOR, MSDTP_VERSION_MINOR, MSDTP_VERSION_PATCH);
     check("version in parts", strcmp(parts, MSDTP_VERSION) == 0);
     check("version of the Rust crate", strcmp(version, MSDTP_VERSION) == 0);
     check("always enough words", MSDTP_TABLE_WORDS
           == MSDTP_HEADER_WORDS + MSDTP_ROW_WORDS * MSDTP_ROW_LIMIT + MSDTP_WORD_LIMIT);
     check("always enough bytes", MSDTP_OUTPUT_BYTES == MSDTP_BYTE_LIMIT);
+    check("always enough words of a list",
+          MSDTP_LIST_WORDS == MSDTP_DIFFERENCE_WORDS * MSDTP_ROW_LIMIT);
 }
 
 /* The fields stand one after another, in the order of the header. */
@@ -38,12 +41,14 @@ static void check_fields(void)
           && offsetof(struct msdtp_normalising, words) == 16
           && offsetof(struct msdtp_normalising, length) == 24
           && offsetof(struct msdtp_normalising, missing) == 32);
+    check("fields of a comparing", offsetof(struct msdtp_comparing, number) == 0
+          && offsetof(struct msdtp_comparing, entries) == 8);
 }
 
 /* Each number has words of its own, the same in both translation units. */
 static void check_meanings(void)
 {
-    const uint64_t last = MSDTP_OUTPUT_SHORT;
+    const uint64_t last = MSDTP_LIST_SHORT;
     uint64_t number, other;
     int good = 1;
 
@@ -112,6 +117,12 @@ static void check_null(void)
     check("null: no output", msdtp_write(table, MSDTP_HEADER_WORDS, NULL, 0).number == MSDTP_ACCEPTED);
     check("null: no table", msdtp_write(NULL, 0, NULL, 0).number == MSDTP_NOT_A_TABLE
           && msdtp_write(NULL, 0, output, MSDTP_OUTPUT_BYTES).number == MSDTP_NOT_A_TABLE);
+    check("null: no list",
+          msdtp_compare(table, MSDTP_HEADER_WORDS, table, MSDTP_HEADER_WORDS, NULL, 0).number == MSDTP_ACCEPTED);
+    check("null: no tables to compare",
+          msdtp_compare(NULL, 0, NULL, 0, NULL, 0).number == MSDTP_NOT_A_TABLE
+          && msdtp_compare(NULL, 0, table, MSDTP_HEADER_WORDS, list, MSDTP_LIST_WORDS).number == MSDTP_NOT_A_TABLE
+          && msdtp_compare(table, MSDTP_HEADER_WORDS, NULL, 0, list, MSDTP_LIST_WORDS).number == MSDTP_NOT_A_TABLE);
 }
 
 /* Each of the numbers was answered in some check. */
@@ -138,6 +149,7 @@ int main(int count, char **arguments)
     check_missing();
     check_cuts();
     check_joining();
+    check_comparing();
     check_one_kind();
     check_null();
     check_limits();

@@ -1,5 +1,5 @@
-//! Messages of the MSDTP (RFC 713): reading, writing and normalising, by the
-//! product's proved static library.
+//! Messages of the MSDTP (RFC 713): reading, writing, normalising and comparing,
+//! by the product's proved static library.
 //!
 //! Every operation works in slices that the caller lends. Nothing is allocated,
 //! no state is kept between calls, and a refused operation leaves untouched
@@ -22,10 +22,13 @@
 //! );
 //! # Ok::<(), msdtp::Refused>(())
 //! ```
+//!
+//! What changed from one message to another is told by [`compare`].
 
 #![deny(unsafe_code, missing_docs)]
 
 mod bits;
+mod comparing;
 pub mod kinds;
 #[allow(unsafe_code)]
 mod library;
@@ -38,6 +41,7 @@ pub mod sys;
 mod text;
 
 pub use bits::Bits;
+pub use comparing::{compare, Difference, Differences};
 pub use operations::{normalise, read, write, Normalised, Read};
 pub use refused::Refused;
 pub use rows::{rows, Items, Row, Rows};
@@ -65,9 +69,16 @@ pub const HEADER_WORDS: usize = 4;
 /// A row of a table has so many words.
 pub const ROW_WORDS: usize = 3;
 
+/// An entry of the list that [`compare`] fills has so many words.
+pub const DIFFERENCE_WORDS: usize = 2;
+
 /// So many words are enough for the table of every message: the header, and as
 /// many rows and data words as there may be.
 pub const TABLE_WORDS: usize = HEADER_WORDS + ROW_WORDS * ROW_LIMIT + WORD_LIMIT;
 
 /// So many bytes are enough for every normal form.
 pub const OUTPUT_BYTES: usize = BYTE_LIMIT;
+
+/// So many words are enough for the list of every two tables: an entry for each
+/// row that there may be.
+pub const LIST_WORDS: usize = DIFFERENCE_WORDS * ROW_LIMIT;

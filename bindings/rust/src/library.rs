@@ -1,9 +1,9 @@
 //! The static library behind safe functions. All the unsafe code of this crate
-//! is here: three calls. A slice is passed as its pointer and its length; an
+//! is here: four calls. A slice is passed as its pointer and its length; an
 //! empty one may have any pointer. Slices that are borrowed as these are cannot
 //! overlap where one of them is written to.
 
-use crate::sys::{self, Normalising, Reading, Writing};
+use crate::sys::{self, Comparing, Normalising, Reading, Writing};
 
 /// Reads a message into a table.
 pub fn read(message: &[u8], table: &mut [u64]) -> Reading {
@@ -27,4 +27,14 @@ pub fn normalise(message: &[u8], table: &mut [u64], output: &mut [u8]) -> Normal
     // All slices live through the call; the table and the output are borrowed
     // for it alone.
     unsafe { sys::msdtp_normalise(from, length, rows, words, to, bytes) }
+}
+
+/// Compares two tables and lists their differences.
+pub fn compare(left: &[u64], right: &[u64], list: &mut [u64]) -> Comparing {
+    let (one, one_words) = (left.as_ptr(), left.len());
+    let (other, other_words) = (right.as_ptr(), right.len());
+    let (words, to) = (list.len(), list.as_mut_ptr());
+    // All slices live through the call, and the list is borrowed for it alone.
+    // The two tables are only looked at, and may be the same one.
+    unsafe { sys::msdtp_compare(one, one_words, other, other_words, to, words) }
 }

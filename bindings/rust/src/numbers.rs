@@ -2,9 +2,9 @@
 //! `msdtp.h`.
 //!
 //! [`read`](crate::read) is refused with 1 to 11, [`write`](crate::write) with
-//! 12 to 15, and [`normalise`](crate::normalise) with 1 to 11, 14 and 15. What
-//! each says in plain words is told by
-//! [`Refused::meaning`](crate::Refused::meaning).
+//! 12 to 15, [`normalise`](crate::normalise) with 1 to 11, 14 and 15, and
+//! [`compare`](crate::compare) with 12 and 16. What each says in plain words is
+//! told by [`Refused::meaning`](crate::Refused::meaning).
 //!
 //! ```
 //! use msdtp::{numbers, read};
@@ -53,7 +53,7 @@ pub const BAD_EDT: u64 = 9;
 pub const TOO_MANY: u64 = 10;
 /// The lent table is too short.
 pub const TABLE_SHORT: u64 = 11;
-/// The table to write is not well formed.
+/// The table to write, or one of those to compare, is not well formed.
 pub const NOT_A_TABLE: u64 = 12;
 /// A STRUC, string or EDT inside sixteen others, in the table to write.
 pub const TOO_NESTED: u64 = 13;
@@ -61,3 +61,5 @@ pub const TOO_NESTED: u64 = 13;
 pub const NORMAL_LONG: u64 = 14;
 /// The lent output is too short.
 pub const OUTPUT_SHORT: u64 = 15;
+/// The lent list is too short.
+pub const LIST_SHORT: u64 = 16;

@@ -1,4 +1,4 @@
-//! The three operations, with answers as results.
+//! Reading, writing and normalising, with answers as results.
 
 use crate::library;
 use crate::numbers::{ACCEPTED, TABLE_SHORT, TOO_LONG};
@@ -96,9 +96,9 @@ pub struct Normalised {
 /// was cut off, and whoever waits for so many bytes and reads again has the whole
 /// after three waits at the most.
 ///
-/// What [`write`] makes of a table of one item is such a message. Behind a message
-/// that is accepted it is the same, the place being that one's length, as long as
-/// both are within [`BYTE_LIMIT`](crate::BYTE_LIMIT).
+/// What [`write`](fn@write) makes of a table of one item is such a message. Behind
+/// a message that is accepted it is the same, the place being that one's length, as
+/// long as both are within [`BYTE_LIMIT`](crate::BYTE_LIMIT).
 ///
 /// ```
 /// use msdtp::read;

@@ -1,6 +1,6 @@
 //! A refusal, and what its number says.
 
-use crate::numbers::{OUTPUT_SHORT, PAST_ENCLOSING, PAST_INPUT, TABLE_SHORT};
+use crate::numbers::{LIST_SHORT, OUTPUT_SHORT, PAST_ENCLOSING, PAST_INPUT, TABLE_SHORT};
 use crate::BYTE_LIMIT;
 use std::error::Error;
 use std::fmt::{Display, Formatter, Result};
@@ -21,12 +21,13 @@ use std::fmt::{Display, Formatter, Result};
 #[derive(Clone, Copy, Debug, PartialEq, Eq)]
 #[non_exhaustive]
 pub struct Refused {
-    /// From 1 to 15, by name in [`numbers`](crate::numbers): reading gives 1 to
-    /// 11, writing 12 to 15.
+    /// From 1 to 16, by name in [`numbers`](crate::numbers): reading gives 1 to
+    /// 11, writing 12 to 15, comparing 12 and 16.
     pub number: u64,
     /// The offset of the faulty object's type-byte with 2 to 9, otherwise 0.
     pub place: usize,
-    /// The table words needed with 11, the output bytes needed with 15,
+    /// The table words needed with 11, the output bytes needed with 15, the
+    /// entries needed with 16, each of [`DIFFERENCE_WORDS`](crate::DIFFERENCE_WORDS);
     /// otherwise 0.
     pub needed: usize,
     /// The table words that hold the reading, if normalising is refused with 14
@@ -59,7 +60,7 @@ impl Refused {
     ///
     /// ```
     /// let refused = msdtp::write(&[], &mut []).unwrap_err();
-    /// assert_eq!(refused.meaning(), "what was given to write is no table of items");
+    /// assert_eq!(refused.meaning(), "what was given is no table of items");
     /// ```
     pub fn meaning(&self) -> &'static str {
         match self.number {
@@ -74,10 +75,11 @@ impl Refused {
             9 => "an EDT whose first two elements are not its type and its version",
             10 => "more than 16,384 rows, or more than 16,384 words of bits and strings",
             11 => "the table that was lent is too short",
-            12 => "what was given to write is no table of items",
+            12 => "what was given is no table of items",
             13 => "more than sixteen containers, one inside the other",
             14 => "the normal form would be longer than 65,536 bytes",
             15 => "the output that was lent is too short",
+            16 => "the list that was lent is too short",
             _ => "no number of the list",
         }
     }
@@ -95,6 +97,7 @@ impl Display for Refused {
         match self.number {
             TABLE_SHORT => write!(to, "; words needed: {}", self.needed),
             OUTPUT_SHORT => write!(to, "; bytes needed: {}", self.needed),
+            LIST_SHORT => write!(to, "; entries needed: {}", self.needed),
             PAST_INPUT | PAST_ENCLOSING => {
                 let more = if self.missing < BYTE_LIMIT {
                     ""

@@ -3,7 +3,8 @@
 //!
 //! A slice is passed as its pointer and its length. An empty one may have any
 //! pointer, null too. Lent buffers may not overlap, and nobody else may change
-//! them while the call runs.
+//! them while the call runs. Only the two tables lent to [`msdtp_compare`] may
+//! overlap or be the same one.
 
 /// Reading's answer: 0 or a refusal's number, its place, the words used or
 /// needed, and the bytes missing.
@@ -49,6 +50,16 @@ pub struct Normalising {
     pub missing: u64,
 }
 
+/// Comparing's answer: 0 or a refusal's number, and the entries told or needed.
+#[derive(Clone, Copy, Debug, PartialEq, Eq)]
+#[repr(C)]
+pub struct Comparing {
+    /// 0, or the refusal's number.
+    pub number: u64,
+    /// The entries written to the list, or with 16 those needed.
+    pub entries: u64,
+}
+
 extern "C" {
     /// Reads a message into a lent table.
     pub fn msdtp_read(
@@ -75,4 +86,15 @@ extern "C" {
         output: *mut u8,
         output_len: usize,
     ) -> Normalising;
+
+    /// Compares the items of two tables and lists the differences, two words an
+    /// entry, in a lent list.
+    pub fn msdtp_compare(
+        left: *const u64,
+        left_len: usize,
+        right: *const u64,
+        right_len: usize,
+        list: *mut u64,
+        list_len: usize,
+    ) -> Comparing;
 }

@@ -1,7 +1,7 @@
 //! The crate and the C header agree: constants, version, words, the fields of
 //! the answers, the functions.
 
-use msdtp::sys::{Normalising, Reading, Writing};
+use msdtp::sys::{Comparing, Normalising, Reading, Writing};
 use msdtp::{kinds, numbers, Refused};
 use std::collections::BTreeMap;
 use std::mem::{offset_of, size_of};
@@ -41,18 +41,20 @@ fn constants() -> BTreeMap<&'static str, String> {
         .collect()
 }
 
-const SIZES: [(&str, usize); 8] = [
+const SIZES: [(&str, usize); 10] = [
     ("BYTE_LIMIT", msdtp::BYTE_LIMIT),
     ("ROW_LIMIT", msdtp::ROW_LIMIT),
     ("WORD_LIMIT", msdtp::WORD_LIMIT),
     ("DEPTH_LIMIT", msdtp::DEPTH_LIMIT),
     ("HEADER_WORDS", msdtp::HEADER_WORDS),
     ("ROW_WORDS", msdtp::ROW_WORDS),
+    ("DIFFERENCE_WORDS", msdtp::DIFFERENCE_WORDS),
     ("TABLE_WORDS", msdtp::TABLE_WORDS),
     ("OUTPUT_BYTES", msdtp::OUTPUT_BYTES),
+    ("LIST_WORDS", msdtp::LIST_WORDS),
 ];
 
-const NUMBERS: [(&str, u64); 16] = [
+const NUMBERS: [(&str, u64); 17] = [
     ("ACCEPTED", numbers::ACCEPTED),
     ("TOO_LONG", numbers::TOO_LONG),
     ("PAST_INPUT", numbers::PAST_INPUT),
@@ -69,6 +71,7 @@ const NUMBERS: [(&str, u64); 16] = [
     ("TOO_NESTED", numbers::TOO_NESTED),
     ("NORMAL_LONG", numbers::NORMAL_LONG),
     ("OUTPUT_SHORT", numbers::OUTPUT_SHORT),
+    ("LIST_SHORT", numbers::LIST_SHORT),
 ];
 
 const KINDS: [(&str, u64); 9] = [
@@ -111,13 +114,13 @@ fn refused(number: u64) -> Refused {
 #[test]
 fn the_words_are_those_of_the_header() {
     let header = header();
-    for number in 1..=15 {
+    for number in 1..=16 {
         let expected = [refused(number).meaning()];
         assert_eq!(words(&header, &format!("case {number}")), expected);
     }
     assert_eq!(words(&header, "case 0"), ["accepted"]);
-    assert_eq!(words(&header, "default"), [refused(16).meaning()]);
-    assert!(words(&header, "case 16").is_empty());
+    assert_eq!(words(&header, "default"), [refused(17).meaning()]);
+    assert!(words(&header, "case 17").is_empty());
 }
 
 /// The fields of a structure of the header, by name. All have eight bytes.
@@ -157,6 +160,10 @@ fn the_fields_are_those_of_the_header() {
     assert_eq!(
         fields(&header, "msdtp_normalising"),
         fields_of!(Normalising: number, place, words, length, missing)
+    );
+    assert_eq!(
+        fields(&header, "msdtp_comparing"),
+        fields_of!(Comparing: number, entries)
     );
 }
 

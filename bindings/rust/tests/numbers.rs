@@ -1,8 +1,8 @@
-//! Every number from 0 to 15, reached through the crate.
+//! Every number from 0 to 16, reached through the crate.
 
 mod tables;
 
-use msdtp::{normalise, read, rows, write};
+use msdtp::{compare, normalise, read, rows, write};
 use msdtp::{Normalised, Read, Refused, Row, OUTPUT_BYTES, TABLE_WORDS};
 use tables::{table_of_bits, table_of_boxes};
 
@@ -92,6 +92,26 @@ fn writing_gives_12_to_15() {
 }
 
 #[test]
+fn comparing_gives_12_and_16() {
+    let (one_number, other) = ([1, 1, 7, 0, 1, 0, 0], [1, 1, 7, 0, 1, 0, 1]);
+    let no_table = [1, 1, 7, 0, 10, 0, 0];
+    let cases: [(&[u64], &[u64], u64, usize); 4] = [
+        (&no_table, &one_number, 12, 0),
+        (&one_number, &no_table, 12, 0),
+        (&[], &[], 12, 0),
+        (&one_number, &other, 16, 1),
+    ];
+    for (left, right, number, needed) in cases {
+        let mut list = [7; 1];
+        let refused = compare(left, right, &mut list).unwrap_err();
+        assert_eq!(compare(left, right, &mut []).unwrap_err(), refused);
+        assert_eq!((refused.number, refused.needed), (number, needed));
+        assert_eq!((refused.place, refused.words), (0, 0));
+        assert_eq!((refused.missing, list), (0, [7]));
+    }
+}
+
+#[test]
 fn normalising_gives_14_and_15_and_the_reading() {
     let mut table = vec![0; TABLE_WORDS];
     let mut output = vec![7; OUTPUT_BYTES];
@@ -131,6 +151,9 @@ fn all_give_0() {
         Ok(Normalised { words, length })
     );
     assert_eq!(rows(&table).last(), Some(Row::Int(10)));
+    let mut list = [7; 2];
+    assert_eq!(compare(&table, &table, &mut list).map(|it| it.len()), Ok(0));
+    assert_eq!(list, [7; 2]);
 }
 
 #[test]
@@ -141,6 +164,7 @@ fn empty_slices() {
     assert_eq!((refused.number, refused.needed), (11, 4));
     assert_eq!(write(&[], &mut []).unwrap_err().number, 12);
     assert_eq!(rows(&[]).next(), None);
+    assert_eq!(compare(&[], &[], &mut []).unwrap_err().number, 12);
 
     let mut table = [7; 4];
     let nothing = Normalised {
@@ -150,6 +174,7 @@ fn empty_slices() {
     assert_eq!(normalise(&[], &mut table, &mut []), Ok(nothing));
     assert_eq!(table, [0, 0, 4, 0]);
     assert_eq!(write(&table, &mut []), Ok(0));
+    assert!(compare(&table, &table, &mut []).is_ok());
 }
 
 #[test]
@@ -170,5 +195,14 @@ fn refusals_are_errors_in_words() {
     assert_eq!(
         refused_writing(&table, 1).to_string(),
         "refused 15: the output that was lent is too short; bytes needed: 2"
+    );
+    let nothing = [0, 0, 4, 0];
+    assert_eq!(
+        compare(&table, &nothing, &mut [7]).unwrap_err().to_string(),
+        "refused 16: the list that was lent is too short; entries needed: 1"
+    );
+    assert_eq!(
+        compare(&table, &[], &mut []).unwrap_err().to_string(),
+        "refused 12: what was given is no table of items"
     );
 }

@@ -6,6 +6,7 @@ pub mod SignedLaws
 pub mod BitLaws
 pub mod Marker
 pub mod MaskLaws
+pub mod OrLaws
 -- ---- slices as the code lends them, and what is written over them
 pub mod Parts
 pub mod Over
@@ -29,6 +30,7 @@ pub mod Apart
 pub mod Cuts
 pub mod ReadProper
 -- ---- items and their tables
+pub mod SameLaws
 pub mod ItemLaws
 pub mod Counts
 pub mod TableLaws

@@ -15,16 +15,19 @@ pub data Leaf : Type 0 where
   bool : Bool → Leaf
   empty : Leaf
   xtra : ℕ → Leaf
+  deriving Discrete as Leaf-discrete
 
 -- an item with elements
 pub data Group : Type 0 where
   struc edt : Group
+  deriving Discrete as Group-discrete
 
 -- a list of items in order: none, or an item and then the rest. A group's first list is its elements.
 pub data Items : Type 0 where
   end : Items
   leaf : Leaf → Items → Items
   group : Group → Items → Items → Items
+  deriving Discrete as Items-discrete
 
 abbrev pub one : Leaf → Items
 one l = leaf l end

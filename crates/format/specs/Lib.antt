@@ -5,6 +5,7 @@ pub mod Numbers
 pub mod Bits
 pub mod Refusals
 pub mod Items
+pub mod Same
 pub mod Classes
 pub mod Objects
 pub mod Messages

@@ -62,6 +62,10 @@ normal-long = 14
 abbrev pub output-short : ℕ
 output-short = 15
 
+-- 16: "if the lent list is too short"
+abbrev pub list-short : ℕ
+list-short = 16
+
 abbrev pub byteLimit : ℕ
 byteLimit = 65536
 

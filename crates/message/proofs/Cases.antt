@@ -93,7 +93,7 @@ items-of-table w xs i =
 pub table-of-items : (w : List ℕ) (xs : Items) → itemsOf w ≡ some xs → IsTable w xs
 table-of-items w xs e = let h = table-only w xs e in record { lawful = h .0; exact = h .2 }
 
-no-items : (w : List ℕ) → itemsOf w ≡ none → NoTable w
+pub no-items : (w : List ℕ) → itemsOf w ≡ none → NoTable w
 no-items w e xs i = let s = items-of-table w xs i in let z : _≡_ {A = ℕ} 0 1 = cc in absurd (omega arith)
 
 -- words are the table of one list of items at most

@@ -101,7 +101,7 @@ same-option none none f g = refl
 same-option none (some y) f g = g y refl
 same-option (some x) b f g = sym (f x refl)
 
-same-items : (w v : List ℕ) → take (headed w) w ≡ take (headed w) v → itemsOf w ≡ itemsOf v
+pub same-items : (w v : List ℕ) → take (headed w) w ≡ take (headed w) v → itemsOf w ≡ itemsOf v
 same-items w v e =
     let f : take (headed v) v ≡ take (headed v) w = ap (λ n. take n v) (sym (same-header w v e)) ∙ sym e ∙ ap (λ n. take n w) (same-header w v e) in
     same-option (itemsOf w) (itemsOf v) (λ xs i. items-of-table v xs (front-table w v xs e (table-of-items w xs i)))

@@ -1,7 +1,11 @@
-// The public operations for C, as declared in include/msdtp.h. Each is the operation of the crate message, with its contract.
+// The public operations for C, as declared in include/msdtp.h. Each is the operation of the crate message or compare, with its
+// contract.
 ghost use mathlib.Core.Path.{_≡_};
 ghost use Rattle.format.specs.Answers.{reading, writing, normalising};
 ghost use Rattle.message.specs.Told.{readTold, writeTold, normaliseTold};
+ghost use Rattle.compare.specs.Differences.{comparing};
+ghost use Rattle.compare.specs.Told.{compareTold};
+use compare::Comparing;
 use message::Normalising;
 use message::Reading;
 use message::Writing;
@@ -29,4 +33,11 @@ pub extern "C" fn msdtp_normalise(
     ensures { λ r. ⌜ normaliseTold r (now (table .exit)) (now (output .exit)) ≡ normalising (now (message .entry)) (now (table .entry)) (now (output .entry)) ⌝ }
 {
     message::normalise(message, table, output)
+}
+
+#[no_mangle]
+pub extern "C" fn msdtp_compare(left: &[u64], right: &[u64], list: &mut [u64]) -> Comparing
+    ensures { λ r. ⌜ compareTold r (now (list .exit)) ≡ comparing (now (left .entry)) (now (right .entry)) (now (list .entry)) ⌝ }
+{
+    compare::compare(left, right, list)
 }

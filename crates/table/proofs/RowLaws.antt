@@ -1,5 +1,5 @@
 -- What the judge asks of single rows, step by step as the code asks it. Assumes nothing.
-use mathlib.Core.Path.{_≡_, refl, _∙_}
+use mathlib.Core.Path.{_≡_, refl, sym, ap, _∙_}
 use mathlib.Core.List.{List}
 use mathlib.Core.Bool.{true, false, not}
 use Prim.Native.Nat.{ℕ, zero, suc, _+_, _-_, _*_, _/_, _%_, _^_, _<_, _≤_}
@@ -13,7 +13,7 @@ use Rattle.format.specs.Choice.{ifEq, both, either}
 use Rattle.format.specs.Bits.{wordsFor}
 use Rattle.format.proofs.Choices.{pick-yes, pick-no, ifLt-yes, ifLt-no, ifEq-yes, ifEq-no, lt-true, lt-false, eq-true, eq-false, byLt, split, split-eq, both-left, both-right, both-yes, both-no}
 use Rattle.table.specs.Rows.{nextRow, kindAt, aAt, bAt, single, lands, dataAt, dataTo}
-use Rattle.table.specs.InOrder.{charsF, allChars, intAt, edtRows, kindOk, groupOk, values, plainOk, lastWord, bitsOk, lowWords, textOk, rowOk, BitsJudged, TextJudged, RowJudged}
+use Rattle.table.specs.InOrder.{charsF, allChars, intAt, edtRows, kindOk, groupOk, values, plainOk, lastWord, bitsOk, lowWords, textOk, rowOk, IntRows, BitsJudged, TextJudged, RowJudged}
 
 module _ (k : ℕ) where
   pub single-leaf : k < 7 → single k ≡ true
@@ -253,3 +253,33 @@ last-is w r d n e = rw e refl
 -- rows in order up to q, and one row more
 pub row-on : (w : List ℕ) (R q : ℕ) → ((i : ℕ) → i < q → rowOk w R i ≡ true) → rowOk w R q ≡ true → (i : ℕ) → i < q + 1 → rowOk w R i ≡ true
 row-on w R q f t i h = split i q (λ l. f i l) (λ g. let e : q ≡ i = omega arith in rw e at t)
+
+-- INTs in order are rows in order, and take no data words
+pub ints-start : (w : List ℕ) (p e : ℕ) → p ≤ e → IntRows w p e p
+ints-start w p e h = record { start = omega arith; within = h; each = λ i l m. absurd (omega arith) }
+
+pub ints-on : (w : List ℕ) (p e q : ℕ) → IntRows w p e q → q < e → kindAt w q ≡ 1 → aAt w q ≡ 0 → IntRows w p e (q + 1)
+ints-on w p e q r h k a =
+    let s = r .start in
+    record { start = omega arith; within = omega arith; each = λ i l m. split i q (λ z. r .each i l z) (λ z. let j : q ≡ i = omega arith in (rw j at k, rw j at a)) }
+
+pub ints-ok : (w : List ℕ) (R p e q : ℕ) → ((i : ℕ) → getD w i 0 < 2 ^ 64) → IntRows w p e q
+    → ((i : ℕ) → i < p → rowOk w R i ≡ true) → (i : ℕ) → i < q → rowOk w R i ≡ true
+ints-ok w R p e q b r f i h =
+    split i p (λ l. f i l)
+    (λ l.
+    let k = r .each i l h in
+    row-plain w R i (omega (arith, k .0)) (λ z. omega (arith, k .0)) ∙ plain-int (kindAt w i) (aAt w i) (bAt w i) (k .1) (k .0) (b (3 * i + 6)))
+
+ints-none : (w : List ℕ) (p e q n : ℕ) → IntRows w p e q → p + n ≤ q → dataTo w (p + n) ≡ dataTo w p
+ints-none w p e q zero r h = ap (dataTo w) (omega arith)
+ints-none w p e q (suc n) r h =
+    let k = r .each (p + n) (omega arith) (omega arith) in
+    let i : p + suc n ≡ p + n + 1 = omega arith in
+    ap (dataTo w) i ∙ data-suc w (p + n) ∙ omega (arith, data-none w (p + n) (λ z. omega (arith, k .0)) (λ z. omega (arith, k .0)), ints-none w p e q n r (omega arith))
+
+pub ints-data : (w : List ℕ) (p e q : ℕ) → IntRows w p e q → dataTo w q ≡ dataTo w p
+ints-data w p e q r =
+    let s = r .start in
+    let i : p + (q - p) ≡ q = omega arith in
+    ap (dataTo w) (sym i) ∙ ints-none w p e q (q - p) r (omega arith)

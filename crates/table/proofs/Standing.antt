@@ -6,12 +6,14 @@ use Prim.Native.Nat.{ℕ, suc, _+_, _-_, _*_, _≤_}
 use native.Mathlib.Omega.{arith}
 use lib.ListN.{length, take, drop, getD, length-append}
 use lib.Seq.{drop-cons, drop-drop, getD-drop, drop-at, take-at}
-use Rattle.format.specs.Items.{Leaf, Group, struc, edt, Items, end, leaf, group, leafKind, isString, text, properLeaf, properGroup, proper}
+use Rattle.format.specs.Items.{Leaf, Group, struc, edt, Items, end, leaf, group, join, leafKind, isString, text, properLeaf, properGroup, proper}
 use Rattle.format.specs.Bits.{spread, packed}
 use Rattle.format.specs.Choice.{pick, both}
 use Rattle.format.specs.Tables.{count, rows, isText, fromWords, leafA, leafB, leafWords, codes, letters, textWords, dataWords, groupWords, containerKind, rowKind, groupB, rowWords, claimedText, claimed}
 use Rattle.format.proofs.Choices.{pick-yes, pick-no, byPick, both-left, both-right, both-true}
 use Rattle.format.proofs.BitLaws.{spread-length, packed-spread}
+use Rattle.format.proofs.Counts as Counts
+use Rattle.format.proofs.ItemLaws.{join-proper}
 use Rattle.format.proofs.TableLaws.{words-on, row-length, rows-back, leaf-back, bits-back, codes-length, characters-of, text-kind}
 use Rattle.table.specs.Rows.{kindAt, aAt, bAt, dataOf, Stands, itemsAt, Run, LeafRow, TextRow, leafAt, textAt}
 
@@ -302,6 +304,27 @@ module _ (w : List ℕ) (d p e : ℕ) where
         good = both-true (proper c) (proper xs) (r .good) (s .good);
         within = s .within;
         few = s .few;
+        little = omega arith;
+        stored = omega arith;
+      }
+
+  -- a run, and another behind it, are one run
+  pub join-runs : (m : ℕ) (c xs : Items) → Stands w d p m c → Stands w (d + length (dataWords c)) m e xs → Stands w d p e (join c xs)
+  join-runs m c xs s t =
+      let a = s .number in
+      let b = t .number in
+      let n = Counts.words-join c xs in
+      let j = t .little in
+      let o = t .stored in
+      record {
+        number = omega (arith, Counts.rows-join c xs);
+        words = s .words ∙ ap (λ z. rowWords d c ++ z) (t .words) ∙ sym (append-assoc (rowWords d c) (rowWords (d + length (dataWords c)) xs) (from w e))
+            ∙ ap (λ z. z ++ from w e) (sym (Counts.row-words-join d c xs));
+        contents = subst (λ (l : List ℕ). drop d (dataOf w) ≡ l ++ drop (d + length l) (dataOf w)) (sym (Counts.data-join c xs))
+            (data-join (dataWords c) (dataWords xs) (dataOf w) d (s .contents) (t .contents));
+        good = join-proper c xs (s .good) (t .good);
+        within = t .within;
+        few = t .few;
         little = omega arith;
         stored = omega arith;
       }

@@ -11,9 +11,9 @@ use lib.Dec.{eqb}
 use Rattle.format.specs.Refusals.{rowLimit, wordLimit}
 use Rattle.format.specs.Items.{Items, proper}
 use Rattle.format.specs.Tables.{count, rows, dataWords, rowWords, tableOf, lawful, itemsOf}
-use Rattle.format.proofs.Choices.{le-true, both-true}
+use Rattle.format.proofs.Choices.{le-true, both-true, clash}
 use Rattle.format.proofs.TableLaws.{row-length, lawful-proper, lawful-rows, lawful-words, table-back, table-only}
-use Rattle.table.specs.Rows.{dataOf, Stands, Header, lands, dataTo}
+use Rattle.table.specs.Rows.{dataOf, Stands, Header, Headed, HeaderJudged, lands, dataTo}
 use Rattle.table.specs.InOrder.{rowOk, isSome}
 use borrow.Author.Tests.{eqb-true, eqb-false}
 use Rattle.table.proofs.Judging.{AllOk, Found, sound, complete}
@@ -131,6 +131,15 @@ formed-no w n = go (itemsOf w) refl
     go : (o : Option Items) → itemsOf w ≡ o → false ≡ isSome o
     go none e = unfold isSome in refl
     go (some xs) e = absurd (n (whole w xs e .formed))
+
+-- ---- the header by its judge
+pub headed : (w : List ℕ) (r : Bool) → HeaderJudged w r → r ≡ true → Headed w
+headed w true h e = h
+headed w false h e = clash false e refl
+
+pub unheaded : (w : List ℕ) (r : Bool) → HeaderJudged w r → r ≡ false → false ≡ isSome (itemsOf w)
+unheaded w true h e = clash true refl e
+unheaded w false n e = formed-no w (λ f. n (f .header))
 
 -- as the code ends: the rows are in order, and the data words are compared
 pub formed-end : (w : List ℕ) (R D d : ℕ) → Header w R D → ((i : ℕ) → getD w i 0 < 2 ^ 64) → lands w (getD w 1 0) 0 R ≡ true →

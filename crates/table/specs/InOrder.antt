@@ -1,5 +1,5 @@
 -- Whether a row of a table is in order, by the words of it and of the rows behind it.
-use Prim.Native.Nat.{ℕ, zero, suc, _+_, _-_, _*_, _%_, _^_, _≤_}
+use Prim.Native.Nat.{ℕ, zero, suc, _+_, _-_, _*_, _%_, _^_, _≤_, _<_}
 use mathlib.Core.Path.{_≡_}
 use mathlib.Core.List.{List, [], _∷_}
 use mathlib.Core.Bool.{Bool, true, false, not}
@@ -54,6 +54,12 @@ values k = ifEq k 1 (2 ^ 64) (ifEq k 3 128 (ifEq k 4 2 (ifEq k 5 1 (ifEq k 6 4 0
 unfoldable pub plainOk : ℕ → ℕ → ℕ → Bool
 unfolding ifEq values
 plainOk k a b = ifEq a 0 (ltb b (values k)) false
+
+-- the rows p up to q, before e, are INTs in order
+pub record IntRows (w : List ℕ) (p e q : ℕ) : Type 0 where
+  pub start : p ≤ q
+  pub within : q ≤ e
+  pub each : (i : ℕ) → p ≤ i → i < q → (kindAt w i ≡ 1) × (aAt w i ≡ 0)
 
 -- the last data word of n bits whose words begin at d; with no bits, the word before
 unfoldable pub lastWord : List ℕ → ℕ → ℕ → ℕ

@@ -3,8 +3,9 @@ ghost use mathlib.Core.Path.{_≡_};
 ghost use Prim.Native.Nat.{_≤_, _<_};
 ghost use Rattle.format.specs.Tables.{itemsOf};
 ghost use Rattle.table.specs.Rows.{Room, Header, dataTo};
-ghost use Rattle.table.specs.InOrder.{groupOk, values, plainOk, RowJudged, isSome};
+ghost use Rattle.table.specs.InOrder.{groupOk, values, plainOk, IntRows, RowJudged, isSome};
 use crate::Judged;
+use crate::rows::header_ok;
 use crate::rows::kind_ok;
 use crate::rows::lands;
 use crate::words::bits_row;
@@ -97,6 +98,24 @@ fn judge_row(table: &[u64], p: usize, rows: usize, words: usize, base: usize) ->
     Judged::Wrong
 }
 
+// How far from `p` on the rows are INTs in order. Most rows are, and this asks less of them than `judge_row` does.
+fn ints_until(table: &[u64], p: usize, rows: usize) -> usize
+    requires { ⌜ Room (now table) p rows ⌝ }
+    ensures { λ r. ⌜ IntRows (now (table .entry)) p rows r ⌝ }
+{
+    let mut q = p;
+    while q < rows {
+        if table[3 * q + 4] != INT {
+            return q;
+        }
+        if table[3 * q + 5] != 0 {
+            return q;
+        }
+        q += 1;
+    }
+    q
+}
+
 // Whether the rows and data words behind a header in order are those of its items.
 pub fn rows_ok(table: &[u64], rows: usize, words: usize) -> bool
     requires { ⌜ Header (now table) rows words ⌝ }
@@ -108,6 +127,11 @@ pub fn rows_ok(table: &[u64], rows: usize, words: usize) -> bool
     let mut p: usize = 0;
     let mut base: usize = 0;
     while p < rows {
+        let next = ints_until(table, p, rows);
+        if next > p {
+            p = next;
+            continue;
+        }
         let one = judge_row(table, p, rows, words, base);
         match one {
             Judged::Wrong => return false,
@@ -118,4 +142,16 @@ pub fn rows_ok(table: &[u64], rows: usize, words: usize) -> bool
         }
     }
     base == words
+}
+
+// Whether any words are a table.
+pub fn is_table(table: &[u64]) -> bool
+    ensures { λ r. ⌜ r ≡ isSome (itemsOf (now (table .entry))) ⌝ }
+{
+    if header_ok(table) {
+        let rows = table[0] as usize;
+        let words = table[3] as usize;
+        return rows_ok(table, rows, words);
+    }
+    false
 }

@@ -6,7 +6,7 @@ use Prim.Native.Nat.{ℕ, zero, suc, _+_, _-_, _*_, _/_, _^_, _<_, _≤_}
 use native.Mathlib.Omega.{arith}
 use lib.ListN.{length, getD}
 use lib.Dec.{ltb}
-use lib.Bits.{bitOr, bitXor, and-le-l, and-le-r, or-add-and, xor-add-and, xor-self}
+use lib.Bits.{bitOr, bitXor, xor-self}
 use native.Mathlib.Nat.{div-lt-iff-lt-mul}
 use Rattle.format.specs.Numbers.{signed}
 use Rattle.format.specs.Bits.{wordsFor}
@@ -14,6 +14,7 @@ use Rattle.format.specs.Items.{Leaf, Items}
 use Rattle.format.specs.Tables.{count}
 use Rattle.format.specs.Normal.{normalSize, normalInt, normalLeaf}
 use Rattle.format.proofs.Choices.{split, split-eq, lt-true, lt-false, clash}
+use Rattle.format.proofs.OrLaws.{or-none, or-zeros, xor-none}
 use Rattle.table.specs.Rows.{kindAt, aAt, bAt, rowsOf, wordsOf, Headed, LeafRow, LeafAt}
 use Rattle.table.specs.InOrder.{values, plainOk, bitsOk, textOk, kindOk}
 use Rattle.writer.specs.Forms.{bitsLength}
@@ -30,21 +31,12 @@ use Rattle.writer.proofs.LeafForms.{bits-length-is, plain-form}
 use Rattle.table.proofs.Judging.{kind-true, kind-right}
 use Rattle.writer.proofs.Passing.{passed-none, passed-join, passed-deeper, passed-leaf, no-leaf, passed-text, no-text, some-depth, Inside, inside, Alone, alone, alone-is, passed-container}
 
-or-none : (a b : ℕ) → bitOr a b ≡ 0 → (a ≡ 0) × (b ≡ 0)
-or-none a b e = (omega (arith, or-add-and a b, and-le-r a b), omega (arith, or-add-and a b, and-le-l a b))
-
 pub four-none : (a b c d : ℕ) → bitOr (bitOr a b) (bitOr c d) ≡ 0 → (a ≡ 0) × (b ≡ 0) × (c ≡ 0) × (d ≡ 0)
 four-none a b c d e =
     let x = or-none (bitOr a b) (bitOr c d) e in
     let y = or-none a b (x .0) in
     let z = or-none c d (x .1) in
     (y .0, y .1, z .0, z .1)
-
-or-zeros : (a b : ℕ) → a ≡ 0 → b ≡ 0 → bitOr a b ≡ 0
-or-zeros a b x y = omega (arith, or-add-and a b)
-
-xor-none : (a b : ℕ) → bitXor a b ≡ 0 → a ≡ b
-xor-none a b e = omega (arith, xor-add-and a b, and-le-l a b, and-le-r a b)
 
 pub row-small : (w : List ℕ) (k m q : ℕ) → 0 < m → bitOr (bitOr (bitXor (kindAt w q) k) (aAt w q)) (bAt w q / m) ≡ 0 → Small w k m q
 row-small w k m q h e =

@@ -50,10 +50,6 @@ verdict-none w n = go (itemsOf w) refl
     go none e = refl
     go (some xs) e = absurd (n xs e)
 
-pub table-headed : (w : List ℕ) (r : Bool) → HeaderJudged w r → r ≡ true → Header w (getD w 0 0) (getD w 3 0)
-table-headed w true h e = h
-table-headed w false h e = clash false e refl
-
 pub no-header : (w : List ℕ) (r : Bool) → HeaderJudged w r → r ≡ false → Refused 12 ≡ verdict w
 no-header w true h e = clash true refl e
 no-header w false n e = verdict-none w (λ xs f. n (whole w xs f .formed .header))

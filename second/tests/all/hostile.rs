@@ -18,15 +18,17 @@ pub fn repeat(count: &[u8], pattern: &[u8]) -> Vec<u8> {
     sized(0xC4, &[count, pattern].concat())
 }
 
+/// Runs with a small stack.
+pub fn in_small_stack<T: Send + 'static>(work: impl FnOnce() -> T + Send + 'static) -> T {
+    let thread = std::thread::Builder::new().stack_size(SMALL_STACK);
+    let running = thread.spawn(work).expect("a thread");
+    running.join().expect("an answer")
+}
+
 /// Runs with a small stack and little time.
 pub fn quickly<T: Send + 'static>(work: impl FnOnce() -> T + Send + 'static) -> T {
-    let thread = std::thread::Builder::new().stack_size(SMALL_STACK);
     let start = Instant::now();
-    let answer = thread
-        .spawn(work)
-        .expect("a thread")
-        .join()
-        .expect("an answer");
+    let answer = in_small_stack(work);
     assert!(start.elapsed() < LONG, "took {:?}", start.elapsed());
     answer
 }

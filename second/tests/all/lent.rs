@@ -1,6 +1,6 @@
 //! Lent room that is filled beforehand, so that every change shows.
 
-use second::{Normalising, Reading, Writing};
+use second::{Comparing, Normalising, Reading, Writing};
 
 fn poison(at: usize) -> u64 {
     (at as u64 + 7).wrapping_mul(0xD6E8_FEB8_6659_FD93)
@@ -68,4 +68,19 @@ pub fn normalise(
     table.truncate(read);
     output.truncate(written);
     (answer, table, output)
+}
+
+/// Compares with so many words lent. Answers the words listed; all others must
+/// be as they were.
+pub fn compare(left: &[u64], right: &[u64], lent: usize) -> (Comparing, Vec<u64>) {
+    let mut list = words(lent);
+    let comparing = second::compare(left, right, &mut list);
+    let used = if comparing.number == 0 {
+        2 * comparing.entries as usize
+    } else {
+        0
+    };
+    assert!(list[used..] == words(lent)[used..], "stray words");
+    list.truncate(used);
+    (comparing, list)
 }

@@ -2,6 +2,8 @@
 
 mod agreement;
 mod chance;
+mod comparing;
+mod comparing_deep;
 mod every;
 mod exhaustive;
 mod hostile;

@@ -4,7 +4,7 @@ use second::command::answer;
 use std::io::Write;
 use std::process::{Command, Stdio};
 
-const ANSWERS: [(&str, &str); 19] = [
+const ANSWERS: [(&str, &str); 25] = [
     (
         "read C203818283 20",
         "number 0 place 0 words 16 missing 0 stray 0 table 4 1 16 0 7 3 3 1 0 1 1 0 2 1 0 3",
@@ -64,6 +64,24 @@ const ANSWERS: [(&str, &str); 19] = [
         "number 0 length 4 stray 0 output C5024845",
     ),
     (
+        "compare 6 2 2 10 0 1 0 5 1 0 6 / 2 2 10 0 1 0 5 1 0 7",
+        "number 0 entries 1 stray 0 list 1 1",
+    ),
+    (
+        "compare 4 1 1 7 0 1 0 5 / 2 2 10 0 1 0 5 1 0 7",
+        "number 0 entries 1 stray 0 list 1 2",
+    ),
+    (
+        "compare 1 1 1 7 0 1 0 5 / 1 1 7 0 1 0 6",
+        "number 16 entries 1 stray 0 list",
+    ),
+    (
+        "compare 0 1 1 7 0 1 0 5 / 1 1 7 0 1 0 5",
+        "number 0 entries 0 stray 0 list",
+    ),
+    ("compare 4 0 0 4 0 /", "number 12 entries 0 stray 0 list"),
+    ("compare 4 /", "number 12 entries 0 stray 0 list"),
+    (
         "list C602C845",
         r"text accepted 1 items 1 rows\n0 STRING 2 72 69\n",
     ),
@@ -99,6 +117,13 @@ fn what_is_no_request_is_answered_with_help() {
         "write 0 1.5",
         "length 1 1 7 0 1 0 64",
         "normalise C2 4",
+        "compare",
+        "compare 4",
+        "compare / 0 0 4 0",
+        "compare 4 0 0 4 0",
+        "compare 4 0 0 4 0 / 0 0 4 0 / 0 0 4 0",
+        "compare 4 0 0 4 0/0 0 4 0",
+        "compare 4 x / 0 0 4 0",
         "list",
         "list C2 C2",
     ];

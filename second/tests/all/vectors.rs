@@ -1,20 +1,22 @@
 //! Every vector, run for real.
 
 use crate::notation::{blocks, Block};
+use crate::plain::differences::{differences, Entry};
 use crate::plain::{forms, messages, tables};
 use crate::{item_notation, lent};
-use second::{Normalising, Reading, Writing};
+use second::{Comparing, Normalising, Reading, Writing};
 use std::collections::BTreeSet;
 use std::path::Path;
 
 const AMPLE_WORDS: usize = 65_540;
 const AMPLE_BYTES: usize = 65_536;
+const AMPLE_LIST: usize = 32_768;
 
 /// All the vectors, and how many of them have each key.
-const ALL: usize = 1_799;
-const KEYS: [(&str, usize); 11] = [
+const ALL: usize = 2_104;
+const KEYS: [(&str, usize); 17] = [
     ("message", 1_452),
-    ("lent", 29),
+    ("lent", 61),
     ("read", 1_452),
     ("items", 472),
     ("table", 584),
@@ -24,6 +26,12 @@ const KEYS: [(&str, usize); 11] = [
     ("list", 45),
     ("write", 347),
     ("bytes", 68),
+    ("compare", 305),
+    ("left", 305),
+    ("right", 305),
+    ("left_items", 236),
+    ("right_items", 236),
+    ("entries", 218),
 ];
 
 #[test]
@@ -36,13 +44,16 @@ fn every_vector_holds() {
     }
     let mut numbers = BTreeSet::new();
     for (name, block) in &vectors {
-        match block.value("write") {
-            Some(_) => run_writing(name, block, &mut numbers),
-            None => run_reading(name, block, &mut numbers),
+        if block.value("compare").is_some() {
+            run_comparing(name, block, &mut numbers);
+        } else if block.value("write").is_some() {
+            run_writing(name, block, &mut numbers);
+        } else {
+            run_reading(name, block, &mut numbers);
         }
     }
     assert!(
-        numbers.iter().copied().eq(0..=15),
+        numbers.iter().copied().eq(0..=16),
         "numbers met: {numbers:?}"
     );
 }
@@ -158,4 +169,45 @@ fn run_writing(name: &str, block: &Block, numbers: &mut BTreeSet<u64>) {
     let number = if length > 0 { 15 } else { number };
     let (asked, _) = lent::write(&table, 0);
     assert_eq!(asked, Writing { number, length }, "{name}: no room");
+}
+
+/// Compares the tables as they are, and exchanged: each entry is then turned
+/// round. Where both are tables, the plain reading has the same differences.
+fn run_comparing(name: &str, block: &Block, numbers: &mut BTreeSet<u64>) {
+    let [left, right] = ["left", "right"].map(|key| table_of(name, block, key));
+    let expected = block.words("compare").expect("what comparing answers");
+    let (number, entries) = (expected[0], expected[1]);
+    let lent = lent_of(block, "lent", AMPLE_LIST);
+    let (answer, list) = lent::compare(&left, &right, lent);
+    assert_eq!(answer, Comparing { number, entries }, "{name}");
+    numbers.insert(number);
+    let (exchanged, turned) = lent::compare(&right, &left, lent);
+    assert_eq!(exchanged, answer, "{name}: exchanged");
+    assert_eq!(turned_round(&list), turned, "{name}: exchanged");
+    if let Some(due) = block.words("entries") {
+        assert_eq!(list, due, "{name}");
+    }
+    let both = [&left, &right].map(|table| tables::items_of_table(table));
+    if let [Some(these), Some(those)] = both {
+        let due: Vec<Entry> = differences(&these, &those);
+        assert_eq!(due.len() as u64, entries, "{name}: of the items");
+        assert!(number != 0 || list == due.concat(), "{name}: of the items");
+    }
+}
+
+/// One of two tables. Where its items are told, it is theirs.
+fn table_of(name: &str, block: &Block, key: &str) -> Vec<u64> {
+    let words = block.words(key).expect("a table");
+    if let Some(text) = block.value(&format!("{key}_items")) {
+        let table = tables::table(&item_notation::items(text));
+        assert!(words.starts_with(&table), "{name}: table of the items");
+    }
+    words
+}
+
+/// The words of each entry the other way round.
+fn turned_round(list: &[u64]) -> Vec<u64> {
+    list.chunks(2)
+        .flat_map(|entry| [entry[1], entry[0]])
+        .collect()
 }

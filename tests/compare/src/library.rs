@@ -2,7 +2,7 @@
 //! this package is here.
 
 use msdtp::sys;
-use second::{Normalising, Reading, Writing};
+use second::{Comparing, Normalising, Reading, Writing};
 
 /// How an empty slice is passed: as null, or by the pointer that it has.
 #[derive(Clone, Copy, Debug, PartialEq, Eq)]
@@ -75,5 +75,20 @@ pub fn normalise(
         words: answer.words,
         length: answer.length,
         missing: answer.missing,
+    }
+}
+
+/// Compares the items of two tables into a lent list, two words an entry.
+pub fn compare(left: &[u64], right: &[u64], list: &mut [u64], empty: Empty) -> Comparing {
+    let words = list.len();
+    let these = pointer(left, empty);
+    let those = pointer(right, empty);
+    let to = pointer_mut(list, empty);
+    // All slices live through the call; the list is borrowed for it alone. Both
+    // tables may be one and the same.
+    let answer = unsafe { sys::msdtp_compare(these, left.len(), those, right.len(), to, words) };
+    Comparing {
+        number: answer.number,
+        entries: answer.entries,
     }
 }

@@ -3,8 +3,9 @@ use native.Mathlib.Omega.{arith}
 use borrow.Author.Tests.{not-true, not-false}
 use borrow.Author.Needs.{needs}
 use Rattle.table.specs.Rows.{rowsOf, wordsOf, Headed}
+use Rattle.table.proofs.Whole.{headed}
 use Rattle.writer.specs.Surveys.{RowsPassed}
-use Rattle.writer.proofs.TopLaws.{table-headed, no-header, no-items, miscounted, misplaced, verdict-long, verdict-normal}
+use Rattle.writer.proofs.TopLaws.{no-header, no-items, miscounted, misplaced, verdict-long, verdict-normal}
 use Rattle.writer.proofs.judge_table.Statement.{statement}
 use Rattle.writer.proofs.judge_table.Tie as tie
 
@@ -13,7 +14,7 @@ returns c = no-header (c .before .before .before .args .table .now) (c .before .
 
 -- the header is in order
 header : (c : tie.Else1) → Headed (c .before .before .before .args .table .now)
-header c = table-headed (c .before .before .before .args .table .now) (c .before .header-ok .result) (c .before .header-ok .ensures) (not-false _ (c .if1 .left))
+header c = headed (c .before .before .before .args .table .now) (c .before .header-ok .result) (c .before .header-ok .ensures) (not-false _ (c .if1 .left))
 
 -- what the survey found
 surveyed : (c : tie.After-found)

@@ -10,6 +10,9 @@ use std::fmt::Debug;
 pub struct Checker {
     message: Pair<u8>,
     given: Pair<u64>,
+    /// The second of two tables that are compared.
+    other: Pair<u64>,
+    /// The table to read into, or the list of differences.
     table: Pair<u64>,
     output: Pair<u8>,
     pub calls: u64,
@@ -35,6 +38,7 @@ impl Checker {
         Box::new(Checker {
             message: Pair::new(),
             given: Pair::new(),
+            other: Pair::new(),
             table: Pair::new(),
             output: Pair::new(),
             calls: 0,
@@ -42,14 +46,19 @@ impl Checker {
         })
     }
 
-    /// The table that the library was lent last, as it left it.
+    /// The table or list that the library was lent last, as it left it.
     pub fn table(&self) -> &[u64] {
         self.table.library.lent()
     }
 
     /// Whether the library left that table as it was.
     pub fn table_is_kept(&self) -> bool {
-        self.table.library.is_kept_from(0)
+        self.table_is_kept_from(0)
+    }
+
+    /// The same from a word on.
+    pub fn table_is_kept_from(&self, word: usize) -> bool {
+        self.table.library.is_kept_from(word)
     }
 
     /// The output that the library was lent last, as it left it.
@@ -93,6 +102,7 @@ impl Checker {
         let Checker {
             message,
             given,
+            other,
             table,
             output,
             ..
@@ -100,6 +110,7 @@ impl Checker {
         let differences = [
             message.difference("message"),
             given.difference("given table"),
+            other.difference("other table"),
             table.difference("table"),
             output.difference("output"),
         ];
@@ -135,6 +146,44 @@ impl Checker {
                 format!("{head}\ntable {}\n", told::words(table))
             });
         }
+        answer
+    }
+
+    /// Compares two tables, with a list of so many words lent.
+    pub fn comparing(&mut self, left: &[u64], right: &[u64], room: usize) -> second::Comparing {
+        let expected = second::compare(left, right, self.table.second.room(room));
+        give(&mut self.given, left);
+        give(&mut self.other, right);
+        let mut answer = expected;
+        for &empty in ways(left.is_empty() || right.is_empty() || room == 0) {
+            let list = self.table.library.room(room);
+            let (these, those) = (self.given.library.lent(), self.other.library.lent());
+            answer = library::compare(these, those, list, empty);
+            let told = || {
+                let head = format!("\ncomparing, {room} words lent, empty slices {empty:?}");
+                let tables = [left, right].map(told::words);
+                format!("{head}\nleft {}\nright {}\n", tables[0], tables[1])
+            };
+            self.compare(&answer, &expected, told);
+            // Only this operation is given another table.
+            if !self.other.agree() {
+                let difference = self.other.difference("other table");
+                self.must(false, || told() + &difference);
+            }
+        }
+        answer
+    }
+
+    /// Compares a table with itself, lent twice as the same words.
+    pub fn comparing_with_itself(&mut self, table: &[u64]) -> second::Comparing {
+        let expected = second::compare(table, table, self.table.second.room(0));
+        give(&mut self.given, table);
+        let list = self.table.library.room(0);
+        let both = self.given.library.lent();
+        let answer = library::compare(both, both, list, Empty::AsItIs);
+        self.compare(&answer, &expected, || {
+            format!("\ncomparing with itself\ntable {}\n", told::words(table))
+        });
         answer
     }
 

@@ -1,7 +1,9 @@
 //! The rules for engineers, `docs/FORMAT.md`, held against the library: the
-//! worked examples, the classes of all type-bytes, and the numbers.
+//! worked examples, those of comparing, the classes of all type-bytes, and the
+//! numbers.
 
 use crate::checker::Checker;
+use crate::comparing::{must_list, Entry};
 use crate::pages::{message, refusal, tables};
 use crate::rooms::{AMPLE_BYTES, AMPLE_WORDS};
 use crate::small_stack::in_both_stacks;
@@ -72,6 +74,37 @@ fn the_worked_examples() {
     });
 }
 
+/// The entries that a cell tells: none, or each in parentheses.
+fn entries(cell: &str) -> Vec<Entry> {
+    let Some(inner) = cell.strip_prefix('(') else {
+        assert_eq!(cell, "none");
+        return vec![];
+    };
+    let inner = inner.strip_suffix(')').expect("a closing parenthesis");
+    let entry = |pair: &str| {
+        let (left, right) = pair.split_once(", ").expect("two rows");
+        [left, right].map(|row| row.parse().expect("a row"))
+    };
+    inner.split(") (").map(entry).collect()
+}
+
+/// Both messages of a compared example are read, and their tables have the
+/// differences told.
+#[test]
+fn the_compared_examples() {
+    let mut checker = Checker::new();
+    let examples = rows("Left", 16);
+    in_both_stacks(&mut checker, |checker| {
+        for row in &examples {
+            let [left, right] = [&row[0], &row[1]].map(|cell| {
+                let words = checker.reading(&bytes(cell, &[]), AMPLE_WORDS).words;
+                checker.table()[..words as usize].to_vec()
+            });
+            must_list(checker, &left, &right, &entries(&row[2]));
+        }
+    });
+}
+
 /// The first and the last type-byte of a cell such as `00-7F`, `C0` or `FC, FD`.
 fn range(cell: &str) -> (u8, u8) {
     let byte = |digits| u8::from_str_radix(digits, 16).expect("a byte");
@@ -106,10 +139,10 @@ fn the_type_bytes() {
 
 #[test]
 fn every_number_in_order() {
-    let numbers: Vec<String> = rows("No.", 16)
+    let numbers: Vec<String> = rows("No.", 17)
         .into_iter()
         .map(|row| row[0].clone())
         .collect();
-    let all: Vec<String> = (0..=15).map(|number: u64| number.to_string()).collect();
+    let all: Vec<String> = (0..=16).map(|number: u64| number.to_string()).collect();
     assert_eq!(numbers, all);
 }

@@ -20,6 +20,8 @@ mod told;
 mod vector_files;
 
 // What is shared with the program that counts instructions.
+#[path = "../../src/bin/linear/hostile_pairs.rs"]
+mod hostile_pairs;
 #[path = "../../src/bin/linear/hostile_tables.rs"]
 mod hostile_tables;
 
@@ -53,6 +55,11 @@ mod writing_small_tables;
 
 mod normalising;
 mod normalising_pairs;
+
+mod comparing;
+mod comparing_changed;
+mod comparing_limits;
+mod comparing_pairs;
 
 mod cuts;
 mod cuts_of_objects;

@@ -13,8 +13,8 @@ use crate::told;
 use compare::library::{self, Empty};
 use std::collections::{BTreeMap, BTreeSet};
 
-/// The numbers of reading, writing and normalising. Others have tests of their own.
-const LAST: u64 = 15;
+/// The last number of the operations that are held to the page here.
+const LAST: u64 = 16;
 
 /// A row of the page: the number, which is 0 for EMPTY, its name, and the cells
 /// that say what is wrong, what is smallest, and the answer.
@@ -64,6 +64,8 @@ enum Case {
     Reading(Vec<u8>, usize, u64),
     /// A table, the output bytes lent and the length that writing then tells.
     Writing(Vec<u64>, usize, u64),
+    /// Two tables, the list words lent and the entries that comparing then tells.
+    Comparing([Vec<u64>; 2], usize, u64),
 }
 
 /// The words of the cell of a number, and the case that they stand for.
@@ -93,6 +95,10 @@ fn by_hand(number: u64) -> Option<(&'static str, Case)> {
         15 => (
             "one INT, and an output of no bytes",
             Case::Writing(table(&[[1, 0, 0]], 1, &[]), 0, 1),
+        ),
+        16 => (
+            "no items and one INT, and a list of one word",
+            Case::Comparing([table(&[], 0, &[]), table(&[[1, 0, 0]], 1, &[])], 1, 1),
         ),
         _ => return None,
     })
@@ -139,6 +145,31 @@ fn writing_as_told(checker: &mut Checker, line: &Line, table: &[u64], room: usiz
     }
 }
 
+/// Comparing answers as the page says, without a place; it answers the same where an
+/// empty list is lent, and where the tables are exchanged.
+fn comparing_as_told(
+    checker: &mut Checker,
+    line: &Line,
+    tables: &[Vec<u64>; 2],
+    room: usize,
+    entries: u64,
+) {
+    let [left, right] = tables;
+    for room in [room, 0] {
+        let answers = [
+            checker.comparing(left, right, room),
+            checker.comparing(right, left, room),
+        ];
+        for answer in answers {
+            let told = answer.number.to_string();
+            let same = answer.number == line.number && told == line.answer;
+            checker.must(same && answer.entries == entries, || {
+                format!("{}, not {answer:?}", line.name)
+            });
+        }
+    }
+}
+
 #[test]
 fn the_smallest_get_their_answers() {
     let mut checker = Checker::new();
@@ -152,6 +183,9 @@ fn the_smallest_get_their_answers() {
                 }
                 Case::Writing(table, room, length) => {
                     writing_as_told(checker, line, table, *room, *length)
+                }
+                Case::Comparing(tables, room, entries) => {
+                    comparing_as_told(checker, line, tables, *room, *entries)
                 }
             }
         }
@@ -186,7 +220,7 @@ fn no_shorter_message_gets_them() {
 }
 
 /// One byte, one STRUC or one bit less than the page has in words, or one word
-/// more to lend, is accepted.
+/// more to lend, to read or to compare, is accepted.
 #[test]
 fn one_less_is_accepted() {
     let mut checker = Checker::new();
@@ -195,6 +229,7 @@ fn one_less_is_accepted() {
     let box_table = table(&chain(16), 1, &[]);
     let bits = table(&[[2, 524_224, 0]], 1, &[0; 8_191]);
     let no_words_but_a_header = table(&[], 0, &[]);
+    let one_int = table(&[[1, 0, 0]], 1, &[]);
     in_both_stacks(&mut checker, |checker| {
         let accepted = [
             checker.reading(&padding, AMPLE_WORDS).number,
@@ -203,8 +238,11 @@ fn one_less_is_accepted() {
             checker.writing(&box_table, AMPLE_BYTES).number,
             checker.writing(&bits, AMPLE_BYTES).number,
             checker.writing(&no_words_but_a_header, 0).number,
+            checker
+                .comparing(&no_words_but_a_header, &one_int, 2)
+                .number,
         ];
-        checker.must(accepted == [0; 6], || format!("{accepted:?}"));
+        checker.must(accepted == [0; 7], || format!("{accepted:?}"));
     });
 }
 
@@ -270,6 +308,7 @@ fn table_gets(checker: &mut Checker, got: &mut Numbers, table: &[u64], room: usi
     for room in [AMPLE_BYTES, room] {
         get("writing", checker.writing(table, room).number);
     }
+    get("comparing", checker.comparing(table, table, 0).number);
 }
 
 /// The message that a row names besides the smallest, in backticks.
@@ -290,6 +329,10 @@ fn each_operation_gets_its_numbers() {
         match case(&line) {
             Case::Reading(message, lent, _) => message_gets(&mut checker, &mut got, &message, lent),
             Case::Writing(table, room, _) => table_gets(&mut checker, &mut got, &table, room),
+            Case::Comparing([left, right], room, _) => {
+                let number = checker.comparing(&left, &right, room).number;
+                got.entry("comparing".into()).or_default().insert(number);
+            }
         }
         if let Some(message) = named(&line) {
             message_gets(&mut checker, &mut got, &message, AMPLE_WORDS);

@@ -7,6 +7,8 @@ use crate::checker::Checker;
 pub const AMPLE_WORDS: usize = 65_540;
 /// Enough for every normal form.
 pub const AMPLE_BYTES: usize = 65_536;
+/// Enough for every list of differences.
+pub const AMPLE_LIST: usize = 32_768;
 /// Added to what is needed, or lent where a refusal is due at once.
 pub const MORE: usize = 40;
 
@@ -15,6 +17,17 @@ fn rooms(needed: usize) -> Vec<usize> {
     match needed {
         0 => vec![MORE, 0],
         _ => vec![needed + MORE, 0, needed, needed - 1],
+    }
+}
+
+/// The words of a list to try, by the entries needed: ample, none, exactly enough,
+/// an entry less, and with a word left over.
+pub fn list_rooms(entries: u64) -> Vec<usize> {
+    let words = 2 * entries as usize;
+    match words {
+        0 => vec![MORE, 0, 1],
+        2 => vec![2 + MORE, 0, 1, 2, 3],
+        _ => vec![words + MORE, 0, 1, words - 2, words - 1, words, words + 1],
     }
 }
 

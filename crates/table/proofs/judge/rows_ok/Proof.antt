@@ -9,7 +9,7 @@ use borrow.Author.Tests.{not-true, not-false}
 use Rattle.table.specs.Rows.{lands, dataTo}
 use Rattle.table.specs.InOrder.{rowOk}
 use Rattle.format.proofs.Choices.{clash}
-use Rattle.table.proofs.RowLaws.{row-on}
+use Rattle.table.proofs.RowLaws.{row-on, ints-ok, ints-data}
 use Rattle.table.proofs.Whole.{formed-no, formed-end}
 use Rattle.table.proofs.judge.rows_ok.Statement.{statement}
 use Rattle.table.proofs.judge.rows_ok.Tie as tie
@@ -30,27 +30,36 @@ loop-holds : tie.Need-loop-holds Inv-loop μ-loop
 unfolding dataTo
 loop-holds c = (omega arith, sym (c .before .lands .ensures) ∙ not-false _ (c .if1 .left), (λ i h. absurd (omega arith)), refl, omega arith)
 
+loop-again : tie.Need-loop-again Inv-loop μ-loop
+loop-again c =
+    let b3 = c .before .before .before in let b7 = b3 .before .before .before .before in
+    let i = b3 .loop .inv in
+    let r = c .before .ints-until .ensures in
+    (r .within, i .1, ints-ok _ _ _ _ _ (λ k. omega (arith, b7 .shared-slice-known .given k)) r (i .2), i .3 ∙ sym (ints-data _ _ _ _ r), i .4)
+
 judge-row-requires : tie.Need-judge-row-requires Inv-loop μ-loop
-judge-row-requires c κs = ((c .before .before .before .before .before .before .pre, c .loop-test .taken), (c .before .loop .inv .3, c .before .loop .inv .4))
+judge-row-requires c κs =
+    let b3 = c .before .before .before in
+    ((b3 .before .before .before .before .before .pre, c .before .before .loop-test .taken), (b3 .loop .inv .3, b3 .loop .inv .4))
 
 returns-2 : tie.Need-returns-2 Inv-loop μ-loop
 returns-2 c =
-    let b3 = c .before .before .before in let b4 = b3 .before in let b9 = b4 .before .before .before .before .before in
+    let b5 = c .before .before .before .before .before in let b6 = b5 .before in let b11 = b6 .before .before .before .before .before in
     let j = rw (c .enum-told .given .1) at (c .before .before .judge-row .ensures) in
-    let h = b9 .pre in
-    let q : b4 .loop .p < getD (b9 .args .table .now) 0 0 = omega (arith, h .rows, b3 .loop-test .taken) in
-    formed-no _ (λ f. clash _ (f .each (b4 .loop .p) (omega arith) q) (rw (h .rows) at j))
+    let h = b11 .pre in
+    let q : b6 .loop .p < getD (b11 .args .table .now) 0 0 = omega (arith, h .rows, b5 .loop-test .taken) in
+    formed-no _ (λ f. clash _ (f .each (b6 .loop .p) (omega arith) q) (rw (h .rows) at j))
 
 add-base : tie.Need-add-base Inv-loop μ-loop
 add-base c =
     let j = rw (c .before .one .given .1) at (c .before .before .before .judge-row .ensures) in
-    let h = c .before .before .before .before .before .before .before .before .before .before .pre in
+    let h = c .before .before .before .before .before .before .before .before .before .before .before .before .pre in
     omega arith
 
-loop-again : tie.Need-loop-again Inv-loop μ-loop
-loop-again c =
+loop-again-2 : tie.Need-loop-again-2 Inv-loop μ-loop
+loop-again-2 c =
     let j = rw (c .before .one .given .1) at (c .before .before .before .judge-row .ensures) in
-    let i = c .before .before .before .before .before .loop .inv in
+    let i = c .before .before .before .before .before .before .before .loop .inv in
     (omega arith, i .1, row-on _ _ _ (i .2) (j .0), j .2, j .1)
 
 returns-3 : tie.Need-returns-3 Inv-loop μ-loop
@@ -70,12 +79,15 @@ rows-ok-spec =
     (λ c κs. omega arith)  -- lands-requires
     returns
     loop-holds
+    (λ c κs. let h = c .before .before .before .before .before .before .pre in record { start = omega arith; within = omega (arith, h .within); few = h .few })  -- ints-until-requires
+    (λ c. omega (arith, c .before .ints-until .ensures .within))  -- loop-less
+    loop-again
     judge-row-requires
     (λ c. search needs)  -- enum-told
     returns-2
     (λ c. search needs)  -- enum-known-one
     add-base
     (λ c. omega arith)  -- add-p
-    (λ c. omega arith)  -- loop-less
-    loop-again
+    (λ c. omega arith)  -- loop-less-2
+    loop-again-2
     returns-3)

@@ -1,8 +1,11 @@
-//! Makes one call of the library for each operation and each hostile message
-//! or table, in two sizes, for a tool that counts the instructions of
-//! `counted_call`. Prints a line for each call: the operation, the shape, the
-//! size, and the bytes lent and words used or written.
+//! Makes one call of the library for each operation and each hostile message,
+//! table or pair of tables, in two sizes, for a tool that counts the
+//! instructions of `counted_call`. To ask is to write with an empty output, and
+//! to count is to compare with an empty list. Prints a line for each call: the
+//! operation, the shape, the size, and the bytes and words lent, used or written.
 
+#[allow(dead_code)]
+mod hostile_pairs;
 mod hostile_tables;
 
 // What is shared with the tests.
@@ -21,19 +24,23 @@ mod plain;
 #[path = "../../../tests/all/tables.rs"]
 mod tables;
 
-use compare::library::{normalise, read, write, Empty};
+use compare::library::{compare, normalise, read, write, Empty};
 use hostile_messages::Size;
 use std::hint::black_box;
 
 /// The output lent to ask a length is empty, and passed by the pointer that it has.
 const EMPTY: Empty = Empty::AsItIs;
 
-/// What a call is given and lent. The table and the output have room for all.
+/// What a call is given and lent. The table, the output and the list have room
+/// for all.
 struct Lent {
     message: Vec<u8>,
     given: Vec<u64>,
+    /// The table that the one given is compared with.
+    other: Vec<u64>,
     table: Vec<u64>,
     output: Vec<u8>,
+    list: Vec<u64>,
 }
 
 /// Makes a call, and answers the words and bytes that it used or wrote besides
@@ -59,6 +66,16 @@ fn ask_call(lent: &mut Lent) -> u64 {
     0
 }
 
+fn compare_call(lent: &mut Lent) -> u64 {
+    2 * compare(&lent.given, &lent.other, &mut lent.list, EMPTY).entries
+}
+
+/// Two tables are counted: nothing is listed.
+fn count_call(lent: &mut Lent) -> u64 {
+    black_box(compare(&lent.given, &lent.other, &mut [], EMPTY));
+    0
+}
+
 /// One call, by the name that the tool is given.
 #[no_mangle]
 #[inline(never)]
@@ -67,7 +84,7 @@ fn counted_call(call: Call, lent: &mut Lent) -> u64 {
 }
 
 fn line(operation: &str, call: Call, name: &str, size: Size, lent: &mut Lent) {
-    let given = lent.message.len() + lent.given.len();
+    let given = lent.message.len() + lent.given.len() + lent.other.len();
     let more = counted_call(call, lent);
     let size = match size {
         Size::Whole => "whole",
@@ -80,21 +97,45 @@ fn main() {
     let mut lent = Lent {
         message: Vec::new(),
         given: Vec::new(),
+        other: Vec::new(),
         table: vec![0; 65_540],
         output: vec![0; 65_536],
+        list: vec![0; 32_768],
     };
     for size in [Size::Quarter, Size::Whole] {
-        for hostile in hostile_messages::messages(size) {
-            lent.message = hostile.message;
-            line("read", read_call, hostile.name, size, &mut lent);
-            line("normalise", normalise_call, hostile.name, size, &mut lent);
-        }
-        lent.message.clear();
-        for (name, given) in hostile_tables::tables(size) {
-            lent.given = given;
-            line("write", write_call, name, size, &mut lent);
-            line("ask", ask_call, name, size, &mut lent);
-        }
-        lent.given.clear();
+        of_messages(size, &mut lent);
+        of_tables(size, &mut lent);
+        of_pairs(size, &mut lent);
     }
+}
+
+fn of_messages(size: Size, lent: &mut Lent) {
+    for hostile in hostile_messages::messages(size) {
+        lent.message = hostile.message;
+        line("read", read_call, hostile.name, size, lent);
+        line("normalise", normalise_call, hostile.name, size, lent);
+    }
+    lent.message.clear();
+}
+
+fn of_tables(size: Size, lent: &mut Lent) {
+    for (name, given) in hostile_tables::tables(size) {
+        lent.given = given;
+        line("write", write_call, name, size, lent);
+        line("ask", ask_call, name, size, lent);
+        lent.other = lent.given.clone();
+        line("compare", compare_call, name, size, lent);
+        lent.other.clear();
+    }
+    lent.given.clear();
+}
+
+fn of_pairs(size: Size, lent: &mut Lent) {
+    for pair in hostile_pairs::pairs(size) {
+        (lent.given, lent.other) = (pair.left, pair.right);
+        line("compare", compare_call, pair.name, size, lent);
+        line("count", count_call, pair.name, size, lent);
+    }
+    lent.given.clear();
+    lent.other.clear();
 }

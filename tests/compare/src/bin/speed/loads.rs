@@ -1,13 +1,18 @@
-//! The messages that are measured. One that is refused has no table to write, and
-//! comes last: `instructions.sh` counts each operation's loads up to the first
-//! that it does not take.
+//! The messages that are measured. One that is refused has no table to write.
 
+/// A name, and what is given.
 pub struct Load {
     pub name: &'static str,
-    pub message: Vec<u8>,
+    pub given: Given,
 }
 
-fn sized(type_byte: u8, contents: &[u8]) -> Vec<u8> {
+pub enum Given {
+    Message(Vec<u8>),
+    /// Two tables to compare.
+    Tables(Vec<u64>, Vec<u64>),
+}
+
+pub fn sized(type_byte: u8, contents: &[u8]) -> Vec<u8> {
     let size = contents.len();
     let told = match size {
         1..=127 => vec![size as u8],
@@ -17,7 +22,7 @@ fn sized(type_byte: u8, contents: &[u8]) -> Vec<u8> {
 }
 
 /// Bytes that differ from one another, all with these high bits.
-fn bytes(count: usize, high: u8, low: u8) -> Vec<u8> {
+pub fn bytes(count: usize, high: u8, low: u8) -> Vec<u8> {
     let byte = |at: usize| high | ((at * 37 + at / 61) as u8 & low);
     (0..count).map(byte).collect()
 }
@@ -50,11 +55,11 @@ fn notes_with_figures() -> Vec<u8> {
     sized(0xC5, &[chest, measured, waist, unknown].concat())
 }
 
-fn nest_of_sixteen() -> Vec<u8> {
+pub fn nest_of_sixteen() -> Vec<u8> {
     (0..16).fold(vec![0x80], |inner, _| sized(0xC2, &inner))
 }
 
-fn bit_string(count: usize) -> Vec<u8> {
+pub fn bit_string(count: usize) -> Vec<u8> {
     let length = (8 * count as u32).to_be_bytes();
     sized(
         0xC1,
@@ -63,7 +68,7 @@ fn bit_string(count: usize) -> Vec<u8> {
 }
 
 /// A measure sheet: type, version, order number, unit and three figures.
-fn measure_sheet() -> Vec<u8> {
+pub fn measure_sheet() -> Vec<u8> {
     let kind = sized(0xC6, b"MEASURE");
     let order = [0xE0, 0, 0, 0x01, 0x9A, 0x3C, 0x55, 0x07, 0x21];
     let figures = [
@@ -99,7 +104,7 @@ fn each_atomic() -> Vec<u8> {
 }
 
 /// A letter with some of everything in it.
-fn letter() -> Vec<u8> {
+pub fn letter() -> Vec<u8> {
     let date = sized(0xC3, &[0x87, 0x81, 0xE2, 0x07, 0xB8, 0x84, 0x86]);
     let from = sized(0xC6, b"JFH@MIT-DMS");
     let flags = sized(0xC2, &[0xFC, 0xFD, 0xFE, 0xF9, 0xF2, 0x02, 0x53]);
@@ -119,7 +124,7 @@ fn letter() -> Vec<u8> {
 }
 
 /// A sheet with a note for the cutter.
-fn sheet_with_note() -> Vec<u8> {
+pub fn sheet_with_note() -> Vec<u8> {
     let note = sized(
         0xC5,
         b"LEFT SHOULDER DROPS; SECOND FITTING ON FRIDAY, ASK FOR THE LINING",
@@ -143,7 +148,8 @@ fn strings_and_bits() -> Vec<u8> {
 }
 
 fn load(name: &'static str, message: Vec<u8>) -> Load {
-    Load { name, message }
+    let given = Given::Message(message);
+    Load { name, given }
 }
 
 pub fn loads() -> Vec<Load> {

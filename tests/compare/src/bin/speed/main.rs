@@ -1,43 +1,71 @@
-//! How long the library takes beside the second program, by kind of message.
+//! How long the library takes beside the second program, by kind of message, and
+//! by pair of tables where two are compared.
 //!
 //! Both are run by turns in one run, and the shortest of many rounds counts. To
 //! ask is to write with an empty output lent, which tells the length.
 //! Buffers are lent as the call before left them. The floor is a plain loop
-//! that stores as many words as the table has.
+//! that stores as many words as the table has or, where two tables are compared,
+//! compares their words.
 
 mod loads;
 mod measure;
+mod pairs;
 
 use compare::library;
 use loads::{loads, Load};
-use measure::{measure, store_words, Buffers, Call, Times};
+use measure::{compare_words, measure, store_words, Buffers, Call, Times};
+use pairs::pairs;
 use std::hint::black_box;
 use std::process::ExitCode;
+
+/// What an operation is given.
+#[derive(PartialEq, Eq)]
+enum Of {
+    Message,
+    /// A table, which a message that is refused has not.
+    Table,
+    TwoTables,
+}
 
 /// An operation as both programs do it.
 struct Operation {
     name: &'static str,
-    /// Whether it is given a table, which a message that is refused has not.
-    of_table: bool,
+    of: Of,
     library: Call,
     second: Call,
 }
 
 impl Operation {
-    /// What a load lends to this operation, if there is something to give it.
-    fn lent(&self, load: &Load) -> Option<Buffers> {
-        let lent = Buffers::new(&load.message);
-        (!self.of_table || !lent.given.is_empty()).then_some(lent)
+    /// The loads that this operation takes, and what each lends to it.
+    fn loads(&self) -> impl Iterator<Item = (Load, Buffers)> + use<'_> {
+        let all = match self.of {
+            Of::TwoTables => pairs(),
+            _ => loads(),
+        };
+        let with_buffers = all.into_iter().map(|load| {
+            let lent = Buffers::new(&load.given);
+            (load, lent)
+        });
+        with_buffers.filter(|(_, lent)| self.of != Of::Table || !lent.given.is_empty())
+    }
+
+    fn floor(&self) -> Call {
+        match self.of {
+            Of::TwoTables => compare_words,
+            _ => store_words,
+        }
     }
 }
 
 /// The output lent to ask a length is empty, and passed by the pointer that it has.
 const EMPTY: library::Empty = library::Empty::AsItIs;
+/// The words of a list that is always enough.
+const AMPLE_LIST: usize = 32_768;
 
-const OPERATIONS: [Operation; 4] = [
+const OPERATIONS: [Operation; 5] = [
     Operation {
         name: "read",
-        of_table: false,
+        of: Of::Message,
         library: |lent| {
             black_box(library::read(&lent.message, &mut lent.table, EMPTY));
         },
@@ -47,7 +75,7 @@ const OPERATIONS: [Operation; 4] = [
     },
     Operation {
         name: "write",
-        of_table: true,
+        of: Of::Table,
         library: |lent| {
             black_box(library::write(&lent.given, &mut lent.output, EMPTY));
         },
@@ -57,7 +85,7 @@ const OPERATIONS: [Operation; 4] = [
     },
     Operation {
         name: "ask",
-        of_table: true,
+        of: Of::Table,
         library: |lent| {
             black_box(library::write(&lent.given, &mut [], EMPTY));
         },
@@ -67,7 +95,7 @@ const OPERATIONS: [Operation; 4] = [
     },
     Operation {
         name: "normalise",
-        of_table: false,
+        of: Of::Message,
         library: |lent| {
             let (table, output) = (&mut lent.table, &mut lent.output);
             black_box(library::normalise(&lent.message, table, output, EMPTY));
@@ -77,16 +105,29 @@ const OPERATIONS: [Operation; 4] = [
             black_box(second::normalise(black_box(&lent.message), table, output));
         },
     },
+    Operation {
+        name: "compare",
+        of: Of::TwoTables,
+        library: |lent| {
+            let list = &mut lent.table[..AMPLE_LIST];
+            black_box(library::compare(&lent.given, &lent.other, list, EMPTY));
+        },
+        second: |lent| {
+            let list = &mut lent.table[..AMPLE_LIST];
+            black_box(second::compare(black_box(&lent.given), &lent.other, list));
+        },
+    },
 ];
 
 fn head(operation: &Operation) {
+    let (units, unit, of) = match operation.of {
+        Of::TwoTables => ("words", "word", "of both tables"),
+        _ => ("bytes", "byte", "of the message"),
+    };
+    println!("\n{}: ns for a call, a {unit} {of}, a row", operation.name);
     println!(
-        "\n{}: ns for a call, a byte of the message, a row",
-        operation.name
-    );
-    println!(
-        "{:34} {:>6} {:>6} | {:>10} {:>7} {:>7} | {:>10} {:>7} {:>7} | {:>5} | {:>9}",
-        "", "bytes", "rows", "library", "byte", "row", "second", "byte", "row", "ratio", "floor"
+        "{:34} {units:>6} {:>6} | {:>10} {unit:>7} {:>7} | {:>10} {unit:>7} {:>7} | {:>5} | {:>9}",
+        "", "rows", "library", "row", "second", "row", "ratio", "floor"
     );
 }
 
@@ -99,7 +140,7 @@ fn each(time: f64, units: usize) -> String {
 }
 
 fn line(load: &Load, lent: &Buffers, times: &Times) {
-    let bytes = lent.message.len();
+    let units = lent.units();
     let rows = lent.rows();
     let Times {
         library,
@@ -109,13 +150,13 @@ fn line(load: &Load, lent: &Buffers, times: &Times) {
     let of = |time: f64| {
         format!(
             "{time:10.1} {:>7} {:>7}",
-            each(time, bytes),
+            each(time, units),
             each(time, rows)
         )
     };
     let ratio = library / second;
     println!(
-        "{:34} {bytes:6} {rows:6} | {} | {} | {ratio:5.2} | {floor:9.1}",
+        "{:34} {units:6} {rows:6} | {} | {} | {ratio:5.2} | {floor:9.1}",
         load.name,
         of(library),
         of(second),
@@ -124,23 +165,22 @@ fn line(load: &Load, lent: &Buffers, times: &Times) {
 
 /// Makes only the calls of one program, for a tool that counts instructions: the
 /// operation's name, the load's number, the program and the number of calls.
-/// Prints the load's name, and its bytes and rows.
+/// Prints the load's name, its bytes or words, and its rows.
 fn only(words: &[String]) -> Option<()> {
     let [name, load, program, calls] = words else {
         return None;
     };
     let operation = OPERATIONS.iter().find(|known| known.name == name)?;
-    let load = loads().into_iter().nth(load.parse().ok()?)?;
+    let (load, mut lent) = operation.loads().nth(load.parse().ok()?)?;
     let call = match program.as_str() {
         "library" => operation.library,
         "second" => operation.second,
         _ => return None,
     };
-    let mut lent = operation.lent(&load)?;
     for _ in 0..calls.parse::<usize>().ok()? {
         call(black_box(&mut lent));
     }
-    println!("{}|{}|{}", load.name, lent.message.len(), lent.rows());
+    println!("{}|{}|{}", load.name, lent.units(), lent.rows());
     Some(())
 }
 
@@ -154,11 +194,9 @@ fn main() -> ExitCode {
     }
     for operation in OPERATIONS {
         head(&operation);
-        for load in loads() {
-            let Some(mut lent) = operation.lent(&load) else {
-                continue;
-            };
-            let times = measure(&mut lent, operation.library, operation.second, store_words);
+        for (load, mut lent) in operation.loads() {
+            let floor = operation.floor();
+            let times = measure(&mut lent, operation.library, operation.second, floor);
             line(&load, &lent, &times);
         }
     }

@@ -1,5 +1,6 @@
 //! Times of calls, taken by turns.
 
+use crate::loads::Given;
 use std::hint::black_box;
 use std::time::Instant;
 
@@ -10,27 +11,46 @@ const ROUND: f64 = 300_000.0;
 /// What a call is given and lent.
 pub struct Buffers {
     pub message: Vec<u8>,
-    /// The message's table, to be written; no words if the message is refused.
+    /// The message's table, to be written, or the first of two to be compared; no
+    /// words if the message is refused.
     pub given: Vec<u64>,
+    /// The second of two tables.
+    pub other: Vec<u64>,
+    /// The table to read into, or the list of differences.
     pub table: Vec<u64>,
     pub output: Vec<u8>,
 }
 
 impl Buffers {
-    pub fn new(message: &[u8]) -> Buffers {
+    pub fn new(given: &Given) -> Buffers {
         let mut table = vec![0; 65_540];
-        let words = second::read(message, &mut table).words as usize;
+        let (message, given, other) = match given {
+            Given::Message(message) => {
+                let words = second::read(message, &mut table).words as usize;
+                (message.clone(), table[..words].to_vec(), vec![])
+            }
+            Given::Tables(left, right) => (vec![], left.clone(), right.clone()),
+        };
         Buffers {
-            message: message.to_vec(),
-            given: table[..words].to_vec(),
+            message,
+            given,
+            other,
             table,
             output: vec![0; 65_536],
         }
     }
 
-    /// The rows of the message's table.
+    /// The rows of the table given.
     pub fn rows(&self) -> usize {
         self.given.first().map_or(0, |&rows| rows as usize)
+    }
+
+    /// The bytes of the message, or the words of both tables.
+    pub fn units(&self) -> usize {
+        match self.other.len() {
+            0 => self.message.len(),
+            others => self.given.len() + others,
+        }
     }
 }
 
@@ -50,6 +70,12 @@ pub fn store_words(lent: &mut Buffers) {
         *word = at as u64;
     }
     black_box(&mut lent.table);
+}
+
+/// Compares the words of two tables one by one, as far as both go.
+pub fn compare_words(lent: &mut Buffers) {
+    let pairs = lent.given.iter().zip(&lent.other);
+    black_box(pairs.filter(|(one, other)| one != other).count());
 }
 
 /// Nanoseconds for each of so many calls.
