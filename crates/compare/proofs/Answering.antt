@@ -17,7 +17,7 @@ use Rattle.format.proofs.Over.{at-front}
 use Rattle.table.specs.Rows.{rowsOf}
 use Rattle.table.specs.InOrder.{isSome}
 use Rattle.table.proofs.Whole.{whole}
-use Rattle.compare.specs.Differences.{difference, changes, entries, Comparing, uncompared, differing, comparingOf, comparing}
+use Rattle.compare.specs.Differences.{difference, changes, entries, answered, differing, comparingOf, comparing}
 use Rattle.compare.specs.Walks.{changesFor, changesOf, Walk, BothTables}
 use Rattle.compare.proofs.ListLaws.{no-length}
 
@@ -35,19 +35,19 @@ both-tables w v a b =
     let j = its-items v b in
     record { xs = i .0; ys = j .0; left = i .1; right = j .1 }
 
-pub not-left : (w v t : List ℕ) → false ≡ isSome (itemsOf w) → uncompared not-a-table 0 t ≡ comparing w v t
+pub not-left : (w v t : List ℕ) → false ≡ isSome (itemsOf w) → answered not-a-table 0 t ≡ comparing w v t
 unfolding comparing
 not-left w v t = go (itemsOf w)
   where
-    go : (x : Option Items) → false ≡ isSome x → uncompared not-a-table 0 t ≡ comparingOf x (itemsOf v) t
+    go : (x : Option Items) → false ≡ isSome x → answered not-a-table 0 t ≡ comparingOf x (itemsOf v) t
     go none = λ e. unfold comparingOf in refl
     go (some xs) = unfold isSome in λ (e : false ≡ true). absurd (false≢true e)
 
-pub not-right : (w v t : List ℕ) → false ≡ isSome (itemsOf v) → uncompared not-a-table 0 t ≡ comparing w v t
+pub not-right : (w v t : List ℕ) → false ≡ isSome (itemsOf v) → answered not-a-table 0 t ≡ comparing w v t
 unfolding comparing
 not-right w v t = go (itemsOf w) (itemsOf v)
   where
-    go : (x y : Option Items) → false ≡ isSome y → uncompared not-a-table 0 t ≡ comparingOf x y t
+    go : (x y : Option Items) → false ≡ isSome y → answered not-a-table 0 t ≡ comparingOf x y t
     go none y = λ e. unfold comparingOf in refl
     go (some xs) none = λ e. unfold comparingOf in refl
     go (some xs) (some ys) = unfold isSome in λ (e : false ≡ true). absurd (false≢true e)
@@ -92,30 +92,27 @@ module _ (w v : List ℕ) (s : BothTables w v) where
       }
 
 -- ---- the list decides between 16 and 0, as the code answers
-abbrev answer : ℕ → ℕ → List ℕ → Comparing
-answer why n t = record { number = why; entries = n; list = t }
-
 module _ (w v : List ℕ) (s : BothTables w v) (t : List ℕ) (n : ℕ) where
-  pub too-short : n ≡ length (changesOf w v) → length t / 2 < n → answer list-short n t ≡ comparing w v t
+  pub too-short : n ≡ length (changesOf w v) → length t / 2 < n → answered list-short n t ≡ comparing w v t
   unfolding differing
   too-short e h =
-      ap (λ z. answer list-short z t) e ∙ sym (compared w v s t ∙ ifLt-yes (length t / 2) (length (changesOf w v)) _ _ (omega arith))
+      ap (λ z. answered list-short z t) e ∙ sym (compared w v s t ∙ ifLt-yes (length t / 2) (length (changesOf w v)) _ _ (omega arith))
 
-  pub all-listed : (u : List ℕ) → n ≡ length (changesOf w v) → n ≤ length t / 2 → u ≡ over (entries (changesOf w v)) t → answer 0 n u ≡ comparing w v t
+  pub all-listed : (u : List ℕ) → n ≡ length (changesOf w v) → n ≤ length t / 2 → u ≡ over (entries (changesOf w v)) t → answered 0 n u ≡ comparing w v t
   unfolding differing
   all-listed u e h i =
-      ap₂ (answer 0) e i ∙ sym (compared w v s t ∙ ifLt-no (length t / 2) (length (changesOf w v)) _ _ (omega arith))
+      ap₂ (answered 0) e i ∙ sym (compared w v s t ∙ ifLt-no (length t / 2) (length (changesOf w v)) _ _ (omega arith))
 
-  pub none-listed : n ≡ length (changesOf w v) → n ≤ 0 → answer 0 n t ≡ comparing w v t
+  pub none-listed : n ≡ length (changesOf w v) → n ≤ 0 → answered 0 n t ≡ comparing w v t
   unfolding over entries
   none-listed e h = all-listed t e (omega arith) (ap (λ l. over (entries l) t) (sym (no-length (changesOf w v) (omega arith))))
 
 -- the one entry of unlike counts
 module _ (w v : List ℕ) (s : BothTables w v) (n : getD w 1 0 ≢ getD v 1 0) (t : List ℕ) where
-  pub no-room : length t < 2 → answer list-short 1 t ≡ comparing w v t
+  pub no-room : length t < 2 → answered list-short 1 t ≡ comparing w v t
   no-room h = too-short w v s t 1 (sym (ap length (counts-differ w v s n))) (omega arith)
 
-  pub one-entry : (u : List ℕ) → 2 ≤ length t → u ≡ overAt (2 * 0) (rowsOf w ∷ rowsOf v ∷ []) t → answer 0 1 u ≡ comparing w v t
+  pub one-entry : (u : List ℕ) → 2 ≤ length t → u ≡ overAt (2 * 0) (rowsOf w ∷ rowsOf v ∷ []) t → answered 0 1 u ≡ comparing w v t
   unfolding entries
   one-entry u h e =
       let d = counts-differ w v s n in

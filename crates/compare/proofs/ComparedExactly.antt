@@ -15,7 +15,7 @@ use Rattle.format.proofs.TableLaws.{lawful-rows}
 use Rattle.message.specs.Words.{IsTable, NoTable, headed}
 use Rattle.message.proofs.Cases.{both-hold, both-fail, no-items, items-of-table, table-of-items, one-table}
 use Rattle.message.proofs.WriteExactly.{same-items}
-use Rattle.compare.specs.Differences.{changes, entries, Comparing, uncompared, differing, comparingOf, comparing}
+use Rattle.compare.specs.Differences.{changes, entries, Comparing, answered, differing, comparingOf, comparing}
 use Rattle.compare.specs.Places.{turned}
 use Rattle.compare.proofs.DifferenceLaws.{changes-none, changes-few}
 use Rattle.compare.proofs.Turning.{changes-turned}
@@ -28,10 +28,10 @@ unfolding comparing comparingOf
 of-tables w v t xs ys i j = rw (items-of-table w xs i, items-of-table v ys j) refl
 
 -- a fact of each answer, with what makes it due, is a fact of the answer: 12 for the left, 12 for the right, 16, 0
-compare-by : (w v t : List ℕ) (P : Comparing → Type 0) → (NoTable w → P (uncompared 12 0 t)) → (NoTable v → P (uncompared 12 0 t))
-    → ((xs ys : Items) → IsTable w xs → IsTable v ys → length t / 2 < length (changes xs ys) → P (uncompared 16 (length (changes xs ys)) t))
+compare-by : (w v t : List ℕ) (P : Comparing → Type 0) → (NoTable w → P (answered 12 0 t)) → (NoTable v → P (answered 12 0 t))
+    → ((xs ys : Items) → IsTable w xs → IsTable v ys → length t / 2 < length (changes xs ys) → P (answered 16 (length (changes xs ys)) t))
     → ((xs ys : Items) → IsTable w xs → IsTable v ys → length (changes xs ys) ≤ length t / 2
-    → P (record { number = 0; entries = length (changes xs ys); list = over (entries (changes xs ys)) t }))
+    → P (answered 0 (length (changes xs ys)) (over (entries (changes xs ys)) t)))
     → P (comparing w v t)
 unfolding comparing
 compare-by w v t P f g h k = go (itemsOf w) (itemsOf v) refl refl
@@ -63,6 +63,10 @@ comparing-12 w v t =
     not-either xs ys i j (inl n) = n xs i
     not-either xs ys i j (inr n) = n ys j
 
+-- two tables have one number of differences
+one-number : (w v : List ℕ) (xs xs′ ys ys′ : Items) → IsTable w xs → IsTable w xs′ → IsTable v ys → IsTable v ys′ → length (changes xs ys) ≡ length (changes xs′ ys′)
+one-number w v xs xs′ ys ys′ i i′ j j′ = ap₂ (λ a b. length (changes a b)) (one-table w xs xs′ i i′) (one-table v ys ys′ j j′)
+
 pub comparing-16 : (w v t : List ℕ)
     → (comparing w v t .number ≡ 16) ↔ ((xs : Items) × ((ys : Items) × (IsTable w xs × IsTable v ys × (length t / 2 < length (changes xs ys)))))
 comparing-16 w v t =
@@ -70,7 +74,7 @@ comparing-16 w v t =
     (λ n. both-fail (λ z. omega arith) (λ x. n (x .0) (x .1 .1 .0))) (λ n. both-fail (λ z. omega arith) (λ x. n (x .1 .0) (x .1 .1 .1)))
     (λ xs ys i j h. both-hold refl (xs, (ys, (i, j, h))))
     (λ xs ys i j h. both-fail (λ z. omega arith)
-    (λ x. omega (arith, h, x .1 .1 .2, ap₂ (λ a b. length (changes a b)) (one-table w xs (x .0) i (x .1 .1 .0)) (one-table v ys (x .1 .0) j (x .1 .1 .1)))))
+    (λ x. omega (arith, h, x .1 .1 .2, one-number w v xs (x .0) ys (x .1 .0) i (x .1 .1 .0) j (x .1 .1 .1))))
 
 pub comparing-0 : (w v t : List ℕ)
     → (comparing w v t .number ≡ 0) ↔ ((xs : Items) × ((ys : Items) × (IsTable w xs × IsTable v ys × (length (changes xs ys) ≤ length t / 2))))
@@ -78,7 +82,7 @@ comparing-0 w v t =
     compare-by w v t (λ (r : Comparing). (r .number ≡ 0) ↔ ((xs : Items) × ((ys : Items) × (IsTable w xs × IsTable v ys × (length (changes xs ys) ≤ length t / 2)))))
     (λ n. both-fail (λ z. omega arith) (λ x. n (x .0) (x .1 .1 .0))) (λ n. both-fail (λ z. omega arith) (λ x. n (x .1 .0) (x .1 .1 .1)))
     (λ xs ys i j h. both-fail (λ z. omega arith)
-    (λ x. omega (arith, h, x .1 .1 .2, ap₂ (λ a b. length (changes a b)) (one-table w xs (x .0) i (x .1 .1 .0)) (one-table v ys (x .1 .0) j (x .1 .1 .1)))))
+    (λ x. omega (arith, h, x .1 .1 .2, one-number w v xs (x .0) ys (x .1 .0) i (x .1 .1 .0) j (x .1 .1 .1))))
     (λ xs ys i j h. both-hold refl (xs, (ys, (i, j, h))))
 
 -- ---- what is told: the entries of the list with 0, those needed with 16, none with 12
@@ -94,11 +98,11 @@ no-entries w v t =
 
 -- with 0 the list begins with the differences, and nothing past them changes
 pub list-told : (w v t : List ℕ) (xs ys : Items) → IsTable w xs → IsTable v ys → length (changes xs ys) ≤ length t / 2
-    → comparing w v t ≡ record { number = 0; entries = length (changes xs ys); list = entries (changes xs ys) ++ drop (2 * length (changes xs ys)) t }
+    → comparing w v t ≡ answered 0 (length (changes xs ys)) (entries (changes xs ys) ++ drop (2 * length (changes xs ys)) t)
 unfolding differing over
 list-told w v t xs ys i j h =
     of-tables w v t xs ys i j ∙ ifLt-no (length t / 2) (length (changes xs ys)) _ _ h
-    ∙ ap (λ n. record { number = 0; entries = length (changes xs ys); list = entries (changes xs ys) ++ drop n t }) (entries-length (changes xs ys))
+    ∙ ap (λ n. answered 0 (length (changes xs ys)) (entries (changes xs ys) ++ drop n t)) (entries-length (changes xs ys))
 
 -- to lend what 16 tells is enough
 pub lend-told : (w v t u : List ℕ) → comparing w v t .number ≡ 16 → 2 * comparing w v t .entries ≤ length u → comparing w v u .number ≡ 0
@@ -117,12 +121,12 @@ told-more w v t e =
 pub list-enough : (w v t : List ℕ) → 32768 ≤ length t → comparing w v t .number ≢ 16
 list-enough w v t h e = let m = told-more w v t e in omega (arith, m .0, m .1)
 
-none-differing : (t : List ℕ) → differing [] t ≡ uncompared 0 0 t
+none-differing : (t : List ℕ) → differing [] t ≡ answered 0 0 t
 unfolding differing over entries
 none-differing t = ifLt-no (length t / 2) 0 _ _ (omega arith)
 
 -- ---- "it is empty exactly when the items are the same": number 0, no entries, and the list as lent
-pub nothing-changed : (w v t : List ℕ) (xs ys : Items) → IsTable w xs → IsTable v ys → (comparing w v t ≡ uncompared 0 0 t) ↔ (xs ≡ ys)
+pub nothing-changed : (w v t : List ℕ) (xs ys : Items) → IsTable w xs → IsTable v ys → (comparing w v t ≡ answered 0 0 t) ↔ (xs ≡ ys)
 unfolding over entries
 nothing-changed w v t xs ys i j = (
   λ e. changes-none xs ys .0 (no-length (changes xs ys) (sym (entries-told w v t xs ys i j) ∙ ap (λ (r : Comparing). r .entries) e)),

@@ -13,8 +13,8 @@ use Rattle.format.proofs.Choices.{split}
 use Rattle.format.proofs.Over.{over-self, over-length, over-front, over-over, over-next, at-front, at-length}
 use Rattle.table.specs.Rows.{rowsOf, nextRow}
 use Rattle.compare.specs.Differences.{Difference, difference, differences, entries}
-use Rattle.compare.specs.Walks.{rowsAlike, changesOf, Walk, Going, Here, Met, Behind, First}
-use Rattle.compare.proofs.Walking.{InRows, walk-on, walk-past, in-rows}
+use Rattle.compare.specs.Walks.{rowsAlike, changesOf, Walk, Going, Here, InRows, Passed, Met, Behind, First}
+use Rattle.compare.proofs.Walking.{walk-on, walk-past, in-rows}
 
 -- ---- entries
 pub no-length : (l : List Difference) → length l ≡ 0 → l ≡ []
@@ -40,26 +40,22 @@ walk-end w v p q rest k h = k .told ∙ ended (k .xs) (omega (arith, k .left .nu
     ended (leaf l xs) z = absurd (unfold rows in omega arith)
     ended (group g d xs) z = absurd (unfold rows in omega arith)
 
--- ---- rows passed that are alike: the walk goes from p and q on to i and j with nothing told
-pub record Passing (w v : List ℕ) (p q i j : ℕ) : Type 0 where
-  pub onward : p ≤ i
-  pub on : (rest : List Difference) → Walk w v p q rest → Walk w v i j rest
-
-pub pass-starts : (w v : List ℕ) (p q : ℕ) → Passing w v p q p q
+-- ---- rows passed that are alike
+pub pass-starts : (w v : List ℕ) (p q : ℕ) → Passed w v p q p q
 pass-starts w v p q = record { onward = omega arith; on = λ rest k. k }
 
-module _ (w v : List ℕ) (p q i j : ℕ) (c : Passing w v p q i j) where
+module _ (w v : List ℕ) (p q i j : ℕ) (c : Passed w v p q i j) where
   pub pass-here : Going w v p q → i < rowsOf w → Here w v i j
-  pass-here g h = record { rest = g .rest; walk = c .on (g .rest) (g .walk); row = h }
+  pass-here g h = record { going = record { rest = g .rest; walk = c .on (g .rest) (g .walk) }; row = h }
 
-  pub pass-on : i < rowsOf w → rowsAlike w v i j ≡ true → Passing w v p q (i + 1) (j + 1)
+  pub pass-on : i < rowsOf w → rowsAlike w v i j ≡ true → Passed w v p q (i + 1) (j + 1)
   pass-on h a = let o = c .onward in record { onward = omega arith; on = λ rest k. walk-on w v i j rest (c .on rest k) h a }
 
   pub pass-met : rowsAlike w v i j ≡ false → Met w v p q i j
-  pass-met a = record { onward = c .onward; on = c .on; apart = λ h. a }
+  pass-met a = record { passed = c; apart = λ h. a }
 
   pub pass-end : rowsOf w ≤ i → Met w v p q i j
-  pass-end l = record { onward = c .onward; on = c .on; apart = λ h. absurd (omega arith) }
+  pass-end l = record { passed = c; apart = λ h. absurd (omega arith) }
 
 -- ---- counted: n differences before the rows p and q, which are the next, and the rest from there on
 pub record Counting (w v : List ℕ) (p q n : ℕ) : Type 0 where
@@ -75,8 +71,7 @@ count-starts w v p q f = record { rest = changesOf w v; walk = f .walk; apart = 
 -- the walk behind two items that differ
 pub behind : (w v : List ℕ) (p q : ℕ) (rest : List Difference) → Walk w v p q rest → p < rowsOf w → rowsAlike w v p q ≡ false → Behind w v p q
 behind w v p q rest k h a =
-    let r = in-rows w v p q rest k h in
-    record { left = r .left; right = r .right; going = record { rest = _; walk = walk-past w v p q rest k h a .walk } }
+    record { rows = in-rows w v p q rest k h; going = record { rest = _; walk = walk-past w v p q rest k h a .walk } }
 
 module _ (w v : List ℕ) (p q n : ℕ) (c : Counting w v p q n) where
   pub count-behind : p < rowsOf w → Behind w v p q
@@ -85,10 +80,10 @@ module _ (w v : List ℕ) (p q n : ℕ) (c : Counting w v p q n) where
   pub count-on : p < rowsOf w → (i j : ℕ) → Met w v (nextRow w p) (nextRow v q) i j → Counting w v i j (n + 1)
   count-on h i j m =
       let k = walk-past w v p q (c .rest) (c .walk) h (c .apart h) in
-      let b = count-behind h .left .start in
+      let b = count-behind h .rows .left .start in
       let o = c .low in
       let e = c .total in
-      record { rest = k .more; walk = m .on (k .more) (k .walk); apart = m .apart; total = omega (arith, ap length (k .told)); low = omega (arith, m .onward) }
+      record { rest = k .more; walk = m .passed .on (k .more) (k .walk); apart = m .apart; total = omega (arith, ap length (k .told)); low = omega (arith, m .passed .onward) }
 
   pub count-end : rowsOf w ≤ p → n ≡ length (changesOf w v)
   count-end h = omega (arith, c .total, ap length (walk-end w v p q (c .rest) (c .walk) h))
@@ -112,7 +107,7 @@ entry-next l p q n o t e h =
 
 -- ---- the first difference
 pub first-of : (w v : List ℕ) (p q i j : ℕ) → Walk w v p q (changesOf w v) → Met w v p q i j → First w v i j
-first-of w v p q i j k m = record { walk = m .on (changesOf w v) k; apart = m .apart }
+first-of w v p q i j k m = record { walk = m .passed .on (changesOf w v) k; apart = m .apart }
 
 pub first-there : (w v : List ℕ) (p q : ℕ) → First w v p q → 0 < length (changesOf w v) → p < rowsOf w
 first-there w v p q f h = split p (rowsOf w) (λ l. l) (λ l. absurd (omega (arith, ap length (walk-end w v p q (changesOf w v) (f .walk) l))))
@@ -120,9 +115,9 @@ first-there w v p q f h = split p (rowsOf w) (λ l. l) (λ l. absurd (omega (ari
 pub first-some : (w v : List ℕ) (p q : ℕ) → First w v p q → p < rowsOf w → 1 ≤ length (changesOf w v)
 first-some w v p q f h = omega (arith, ap length (walk-past w v p q (changesOf w v) (f .walk) h (f .apart h) .told))
 
-pub list-first : (w v o u : List ℕ) (p q : ℕ) → First w v p q → p < rowsOf w → 2 ≤ length o → u ≡ overAt (2 * 0) (p ∷ q ∷ []) o → Listing w v u u p q 1
+pub list-first : (w v o u : List ℕ) (p q : ℕ) → First w v p q → p < rowsOf w → u ≡ overAt (2 * 0) (p ∷ q ∷ []) o → Listing w v u u p q 1
 unfolding entries
-list-first w v o u p q f h l e =
+list-first w v o u p q f h e =
     let k = walk-past w v p q (changesOf w v) (f .walk) h (f .apart h) in
     let t : take 2 u ≡ p ∷ q ∷ [] = ap (take 2) (e ∙ at-front (p ∷ q ∷ []) o) ∙ over-front (p ∷ q ∷ []) o 2 refl in
     record {
@@ -137,7 +132,7 @@ list-first w v o u p q f h l e =
 
 module _ (w v o t : List ℕ) (p q n : ℕ) (c : Listing w v o t p q n) where
   pub list-behind : Behind w v p q
-  list-behind = record { left = c .rows .left; right = c .rows .right; going = record { rest = c .rest; walk = c .walk } }
+  list-behind = record { rows = c .rows; going = record { rest = c .rest; walk = c .walk } }
 
   left-over : length (changesOf w v) ≡ n + length (c .rest)
   left-over = ap length (c .total) ∙ length-append (c .done) (c .rest) ∙ ap (λ z. z + length (c .rest)) (c .number)
@@ -145,12 +140,12 @@ module _ (w v o t : List ℕ) (p q n : ℕ) (c : Listing w v o t p q n) where
   -- there is a row more, since there is a difference more
   list-there : n < length (changesOf w v) → (i j : ℕ) → Met w v (nextRow w p) (nextRow v q) i j → i < rowsOf w
   list-there h i j m =
-      split i (rowsOf w) (λ l. l) (λ l. absurd (omega (arith, left-over, ap length (walk-end w v i j (c .rest) (m .on (c .rest) (c .walk)) l))))
+      split i (rowsOf w) (λ l. l) (λ l. absurd (omega (arith, left-over, ap length (walk-end w v i j (c .rest) (m .passed .on (c .rest) (c .walk)) l))))
 
   pub list-on : (u : List ℕ) → n < length (changesOf w v) → (i j : ℕ) → Met w v (nextRow w p) (nextRow v q) i j → u ≡ overAt (2 * n) (i ∷ j ∷ []) t → Listing w v o u i j (n + 1)
   list-on u h i j m e =
       let l = list-there h i j m in
-      let b = m .on (c .rest) (c .walk) in
+      let b = m .passed .on (c .rest) (c .walk) in
       let k = walk-past w v i j (c .rest) b l (m .apart l) in
       let d = difference i j ∷ [] in
       record {

@@ -16,7 +16,7 @@ use Rattle.table.proofs.Whole.{whole}
 use Rattle.message.specs.Words.{NoneDue, Ready, IsTable, given}
 use Rattle.message.proofs.Cases.{read-due, items-of-table, table-of-items}
 use Rattle.message.proofs.Demands.{read-table, same-exactly}
-use Rattle.compare.specs.Differences.{Difference, difference, changes, uncompared, differing, comparing}
+use Rattle.compare.specs.Differences.{Difference, difference, changes, answered, differing, comparing}
 use Rattle.compare.specs.Places.{rowAt, entered, Among, HoldsAt, Apart}
 use Rattle.compare.specs.Walks.{BothTables}
 use Rattle.compare.proofs.Naming.{named}
@@ -68,7 +68,7 @@ read-apart m n t u l xs ys b c d e = of-tables (reading m t .table) (reading n u
 
 -- demand 3 with the ask in it: nothing has changed exactly when the two normalise to the same bytes
 pub same-bytes : (m n t u o p l : List ℕ) (xs ys : Items) → Bytes m → Bytes n → Ready m xs t o → Ready n ys u p
-    → (comparing (reading m t .table) (reading n u .table) l ≡ uncompared 0 0 l) ↔ (given (normalising m t o) ≡ given (normalising n u p))
+    → (comparing (reading m t .table) (reading n u .table) l ≡ answered 0 0 l) ↔ (given (normalising m t o) ≡ given (normalising n u p))
 same-bytes m n t u o p l xs ys b c r s =
     let f = nothing-changed (reading m t .table) (reading n u .table) l xs ys (its-table m t xs b (r .read)) (its-table n u ys c (s .read)) in
     let g = same-exactly m n t u o p xs ys b c r s in

@@ -14,14 +14,14 @@ use Rattle.format.proofs.Choices.{pick-yes, pick-no, whether, clash}
 use Rattle.format.proofs.SameLaws.{ifSame-yes, ifSame-no}
 use Rattle.format.proofs.Counts.{count-join}
 use Rattle.format.proofs.TableLaws.{leaf-kind, text-kind, other-kind}
-use Rattle.table.specs.Rows.{kindAt, aAt, rowsOf, Stands, LeafRow, Room, single, nextRow}
+use Rattle.table.specs.Rows.{kindAt, aAt, rowsOf, Stands, LeafRow, single, nextRow}
 use Rattle.table.proofs.Standing as Standing
 use Rattle.table.proofs.Standing.{group-kind, leaf-parts, group-parts, text-parts}
 use Rattle.table.proofs.KindLaws.{group-row}
 use Rattle.table.proofs.CodeLaws.{text-words}
 use Rattle.compare.specs.Differences.{Difference, difference, goneInto, unequal, differences}
 use Rattle.compare.specs.Places.{entered}
-use Rattle.compare.specs.Walks.{rowsAlike, DataIn, Walk, Here}
+use Rattle.compare.specs.Walks.{rowsAlike, DataIn, Walk, Here, InRows}
 use Rattle.compare.proofs.Pairs as P
 use Rattle.compare.proofs.Pairs.{Item, holder, cons, alone, inside, into, gone-into, same-kind, between, pair-on, count-on}
 use Rattle.compare.proofs.DifferenceLaws.{alone-same, alone-rows, into-rows, differences-join}
@@ -209,11 +209,6 @@ pub record Past (w v : List ℕ) (p q : ℕ) (rest : List Difference) : Type 0 w
   pub told : rest ≡ difference p q ∷ more
   pub walk : Walk w v (nextRow w p) (nextRow v q) more
 
--- the rows that are read
-pub record InRows (w v : List ℕ) (p q : ℕ) : Type 0 where
-  pub left : Room w (p + 1) (nextRow w p)
-  pub right : Room v (q + 1) (nextRow v q)
-
 module _ (w v : List ℕ) (p q : ℕ) (rest : List Difference) (k : Walk w v p q rest) (h : p < rowsOf w) where
   pub walk-on : rowsAlike w v p q ≡ true → Walk w v (p + 1) (q + 1) rest
   walk-on t =
@@ -287,19 +282,19 @@ pub record BothKept (w v : List ℕ) (p q a n : ℕ) : Type 0 where
 
 module _ (w v : List ℕ) (p q : ℕ) (h : Here w v p q) where
   pub here-rows : InRows w v p q
-  here-rows = in-rows w v p q (h .rest) (h .walk) (h .row)
+  here-rows = in-rows w v p q (h .going .rest) (h .going .walk) (h .row)
 
   pub here-bits : kindAt w p ≡ 2 → kindAt w p ≡ kindAt v q → aAt w p ≡ aAt v q → BothKept w v p q (aAt w p) ((aAt w p + 63) / 64)
   unfolding wordsFor
   here-bits k e a =
-      let m = meeting w v p q (h .rest) (h .walk) (h .row) in
+      let m = meeting w v p q (h .going .rest) (h .going .walk) (h .row) in
       let i = bits-there w (m .d) p (m .x) (m .xs) (m .left) k in
       let j = bits-there v (m .e) q (m .y) (m .ys) (m .right) (sym e ∙ k) in
       record { left = i .there; right = subst (λ z. DataIn v q (wordsFor z)) (sym a) (j .there); few = i .few }
 
   pub here-text : kindAt w p ≡ 9 → kindAt w p ≡ kindAt v q → aAt w p ≡ aAt v q → BothKept w v p q (aAt w p) ((aAt w p + 7) / 8)
   here-text k e a =
-      let m = meeting w v p q (h .rest) (h .walk) (h .row) in
+      let m = meeting w v p q (h .going .rest) (h .going .walk) (h .row) in
       let i = text-there w (m .d) p (m .x) (m .xs) (m .left) k in
       let j = text-there v (m .e) q (m .y) (m .ys) (m .right) (sym e ∙ k) in
       let n = eights (aAt w p) in

@@ -66,22 +66,19 @@ pub record Comparing : Type 0 where
   pub entries : ℕ
   pub list : List ℕ
 
--- "A refusal leaves all that is lent untouched"
-abbrev pub uncompared : ℕ → ℕ → List ℕ → Comparing
-uncompared why n t = record { number = why; entries = n; list = t }
+abbrev pub answered : ℕ → ℕ → List ℕ → Comparing
+answered why n t = record { number = why; entries = n; list = t }
 
--- "then 16 if the lent list is too short"; "With 0, the length of each .. list .. written is answered, and nothing past it changes."
--- A list has room for as many entries as fit whole.
+-- "then 16 if the lent list is too short"; "With 0, the length of each .. list .. written is answered, and nothing past it changes. A
+-- refusal leaves all that is lent untouched". A list has room for as many entries as fit whole.
 unfoldable pub differing : List Difference → List ℕ → Comparing
 unfolding ifLt over entries
-differing l t =
-    ifLt (length t / 2) (length l) (uncompared list-short (length l) t)
-    (record { number = 0; entries = length l; list = over (entries l) t })
+differing l t = ifLt (length t / 2) (length l) (answered list-short (length l) t) (answered 0 (length l) (over (entries l) t))
 
 unfoldable pub comparingOf : Option Items → Option Items → List ℕ → Comparing
 unfolding changes differing
-comparingOf none b t = uncompared not-a-table 0 t
-comparingOf (some xs) none t = uncompared not-a-table 0 t
+comparingOf none b t = answered not-a-table 0 t
+comparingOf (some xs) none t = answered not-a-table 0 t
 comparingOf (some xs) (some ys) t = differing (changes xs ys) t
 
 -- "Refusals: 12 for either table, then 16"

@@ -74,20 +74,27 @@ pub record Going (w v : List ℕ) (p q : ℕ) : Type 0 where
 
 -- and the row p is there
 pub record Here (w v : List ℕ) (p q : ℕ) : Type 0 where
-  pub rest : List Difference
-  pub walk : Walk w v p q rest
+  pub going : Going w v p q
   pub row : p < rowsOf w
 
--- The walk goes from the rows p and q on to i and j with nothing told, and these are not alike, unless all rows are behind them.
-pub record Met (w v : List ℕ) (p q i j : ℕ) : Type 0 where
+-- the walk goes from the rows p and q on to i and j with nothing told
+pub record Passed (w v : List ℕ) (p q i j : ℕ) : Type 0 where
   pub onward : p ≤ i
   pub on : (rest : List Difference) → Walk w v p q rest → Walk w v i j rest
+
+-- and these are not alike, unless all rows are behind them
+pub record Met (w v : List ℕ) (p q i j : ℕ) : Type 0 where
+  pub passed : Passed w v p q i j
   pub apart : i < rowsOf w → rowsAlike w v i j ≡ false
 
--- the items of the rows p and q can be left behind whole, and the walk goes on there
-pub record Behind (w v : List ℕ) (p q : ℕ) : Type 0 where
+-- the items of the rows p and q have all their rows
+pub record InRows (w v : List ℕ) (p q : ℕ) : Type 0 where
   pub left : Room w (p + 1) (nextRow w p)
   pub right : Room v (q + 1) (nextRow v q)
+
+-- they can be left behind whole, and the walk goes on there
+pub record Behind (w v : List ℕ) (p q : ℕ) : Type 0 where
+  pub rows : InRows w v p q
   pub going : Going w v (nextRow w p) (nextRow v q)
 
 -- nothing is told before the rows p and q, and these are not alike, unless all rows are behind them

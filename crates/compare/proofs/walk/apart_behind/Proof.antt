@@ -12,7 +12,7 @@ pub apart-behind-spec : {M : Type 1} → statement M
 apart-behind-spec =
     tie.close
     (tie.spec
-    (λ c κs. c .before .before .pre .left)  -- next-row-requires
-    (λ c κs. c .before .before .before .pre .right)  -- next-row-requires-2
+    (λ c κs. c .before .before .pre .rows .left)  -- next-row-requires
+    (λ c κs. c .before .before .before .pre .rows .right)  -- next-row-requires-2
     apart-from-requires
     returns)

@@ -3,14 +3,14 @@ use native.Mathlib.Omega.{arith}
 use mathlib.Core.Path.{_≡_, refl, sym, _∙_}
 use Prim.Native.Nat.{_-_}
 use Rattle.table.specs.Rows.{rowsOf}
-use Rattle.compare.specs.Walks.{Here}
-use Rattle.compare.proofs.Walking.{InRows, here-rows}
-use Rattle.compare.proofs.ListLaws.{Passing, pass-starts, pass-here, pass-on, pass-met, pass-end}
+use Rattle.compare.specs.Walks.{Here, InRows, Passed}
+use Rattle.compare.proofs.Walking.{here-rows}
+use Rattle.compare.proofs.ListLaws.{pass-starts, pass-here, pass-on, pass-met, pass-end}
 use Rattle.compare.proofs.walk.apart_from.Statement.{statement}
 use Rattle.compare.proofs.walk.apart_from.Tie as tie
 
 abbrev Inv-loop : tie.InvT-loop
-Inv-loop left right p q rows i₀ j₀ i j = (rows ≡ rowsOf left) × Passing left right p q i j
+Inv-loop left right p q rows i₀ j₀ i j = (rows ≡ rowsOf left) × Passed left right p q i j
 
 abbrev μ-loop : tie.MeasureT-loop
 μ-loop left right p q rows i₀ j₀ i j = rows - i

@@ -32,7 +32,7 @@ count-from-spec =
     (λ c. omega (arith, c .before .before .before .pre .walk .left .within))  -- shared-slice-read-rows
     (λ c. (refl, count-starts _ _ _ _ (c .before .before .before .pre)))  -- loop-holds
     (λ c κs. differ c)  -- apart-behind-requires
-    (λ c. omega (arith, differ (c .before) .left .start, differ (c .before) .left .few, c .before .before .loop .inv .1 .low))  -- add-n
-    (λ c. omega (arith, differ (c .before) .left .start, c .apart-behind .ensures .onward))  -- loop-less
+    (λ c. omega (arith, differ (c .before) .rows .left .start, differ (c .before) .rows .left .few, c .before .before .loop .inv .1 .low))  -- add-n
+    (λ c. omega (arith, differ (c .before) .rows .left .start, c .apart-behind .ensures .passed .onward))  -- loop-less
     loop-again
     (λ c. count-end _ _ _ _ _ (c .before .loop .inv .1) (omega arith)))  -- returns

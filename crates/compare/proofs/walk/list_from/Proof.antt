@@ -20,7 +20,7 @@ first-room c = let r = c .before .before .before .before .before .before .before
 loop-holds : tie.Need-loop-holds Inv-loop μ-loop
 loop-holds c =
     let r = c .before .before .before .before .before .before .before .pre in
-    (omega (arith, r .1 .0, first-some _ _ _ _ (r .0 .0) (r .0 .1)), list-first _ _ _ _ _ _ (r .0 .0) (r .0 .1) (first-room c) (c .before .before .put-entry .ensures))
+    (omega (arith, r .1 .0, first-some _ _ _ _ (r .0 .0) (r .0 .1)), list-first _ _ _ _ _ _ (r .0 .0) (r .0 .1) (c .before .before .put-entry .ensures))
 
 -- in the loop, the list is as long as it was lent
 as-long : (c : tie.In-loop Inv-loop μ-loop) → length (c .before .loop .list) ≡ length (c .before .before .before .before .before .before .before .before .before .args .list .now)
