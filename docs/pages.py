@@ -60,11 +60,13 @@ def on_pages(blocks):
 
 ENGINEER_HEAD = """# The numbers, for the engineer
 
-A message that cannot be read whole, a table that cannot be written whole, or a pair of tables that cannot be compared whole, is refused with a number. **Nothing is guessed, and nothing is cut from a refused sheet.** The page for the person at the bench is [shears.html](shears.html). Both pages are written from [numbers.txt](numbers.txt) by `python3 docs/pages.py`.
+A message that cannot be read whole, a table that cannot be written whole, a pair of tables that cannot be compared whole, or a measure sheet without three sound figures, is refused with a number. **Nothing is guessed, and nothing is cut from a refused sheet.** The page for the person at the bench is [shears.html](shears.html). Both pages are written from [numbers.txt](numbers.txt) by `python3 docs/pages.py`.
 
 The place that reading gives counts bytes from the start of the message, the first byte being 0. With 2 to 9 it is the type-byte of the faulty object, otherwise it is 0. Writing and comparing give no place.
 
-With 2 and 3 reading, and with it normalising, also tells how many bytes are missing: from the faulty object's own size, or its fixed length, to the end that it passes; where its size field is not whole, the missing bytes of that field alone, and 1 if none of it is there; where a length or count is cut short, the missing bytes of that integer. 65,536 stands for so many or more. With every other number it is 0. sheetlist does not print it.
+Reading a sheet gives reading's numbers with all that they tell. With 20 to 22 everything but the number is 0, and the table holds the reading. **With any number but 0 there are no figures.** Writing a sheet tells the length with 0 and 15.
+
+With 2 and 3 reading, and with it normalising and reading a sheet, also tells how many bytes are missing: from the faulty object's own size, or its fixed length, to the end that it passes; where its size field is not whole, the missing bytes of that field alone, and 1 if none of it is there; where a length or count is cut short, the missing bytes of that integer. 65,536 stands for so many or more. With every other number it is 0. sheetlist does not print it.
 
 Messages that were put end to end are read as one. If the last would be refused by itself with 2 to 9, and those before it are accepted, the whole, if it has at most 65,536 bytes, is refused with the same number and as many bytes missing, and its place is that of the last alone and the length of those before it. With 3 to 9 it is so too where more stands behind it. With 2 it is not: the object that is cut takes the bytes of the next message for its own. The limits are for all of them together: 1 and 10 can be due for the whole where they are due for none.
 
@@ -75,10 +77,12 @@ Messages that were put end to end are read as one. If the last would be refused 
 - **Writing**: 12, 13, 14, 15, in this order.
 - **Normalising**: reading's numbers, then writing's.
 - **Comparing**: 12, for either table; then 16.
+- **Reading a sheet**: reading's numbers. Then, each for the whole sheet: 20, 21, 22. So an EMPTY beside a figure out of range is 21.
+- **Writing a sheet**: 20, 22, 15, in this order.
 
 ## Where a number can come from
 
-12 comes of what the engine gives to write or to compare, and 13 of what it gives to write, never of a room's message. 14 and 15 come of that too, and of normalising a good message from a room. 16 comes of comparing, also of tables that were read from good messages.
+12 comes of what the engine gives to write or to compare, and 13 of what it gives to write, never of a room's message. 14 and 15 come of that too, and of normalising a good message from a room. 16 comes of comparing, also of tables that were read from good messages. 20, 21 and 22 come of a good message from a room that is read as a measure sheet; 15, 20 and 22 also of what the engine gives to write as one. Nothing gives 17 to 19.
 """
 
 ENGINEER_FOOT = """
@@ -187,11 +191,8 @@ BENCH_PAGE = """<!DOCTYPE html>
 </html>
 """
 
-# Sizes in points, the smaller ones for more numbers than ROOMY. Twenty numbers in the larger sizes and thirty lines, as `lines`
-# counts them, in the smaller ones were printed in Liberation Sans, and each was one sheet.
-SIZES = {"words": 15, "numbers": 22}
-SMALL_SIZES = {"words": 14, "numbers": 18}
-ROOMY = 20
+# Sizes in points. Thirty lines, as `lines` counts them, were printed with them in Liberation Sans, and were one sheet.
+SIZES = {"words": 14, "numbers": 18}
 MOST_LINES = 30
 WIDEST_SAYS = 50
 WIDEST_DO = 23
@@ -230,7 +231,7 @@ def refusals(blocks):
 def bench_page(blocks):
     accepted = [block for block in on_pages(blocks) if block["of"] == NO_REFUSAL]
     refused = refusals(blocks)
-    style = STYLE.format(**(SIZES if len(refused) <= ROOMY else SMALL_SIZES))
+    style = STYLE.format(**SIZES)
     return BENCH_PAGE.format(style=style, accepted=bench_table(accepted), refused=bench_table(refused))
 
 

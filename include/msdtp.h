@@ -1,14 +1,17 @@
 /*
- * Messages of the MSDTP (RFC 713): reading, writing, normalising and comparing.
+ * Messages of the MSDTP (RFC 713): reading, writing, normalising and comparing;
+ * and measure sheets.
  *
- *   msdtp_read       the bytes of a message to a table of its items
- *   msdtp_write      a table of items to the bytes of its normal form
- *   msdtp_normalise  the bytes of a message to the bytes of its normal form
- *   msdtp_compare    two tables of items to a list of their differences
+ *   msdtp_read           the bytes of a message to a table of its items
+ *   msdtp_write          a table of items to the bytes of its normal form
+ *   msdtp_normalise      the bytes of a message to the bytes of its normal form
+ *   msdtp_compare        two tables of items to a list of their differences
+ *   msdtp_measure_read   the bytes of a measure sheet to its figures
+ *   msdtp_measure_write  the figures of a measure sheet to its bytes
  *
  * Link with libmsdtp.a. Everything that a caller needs to know stands here, in
  * this order: lent buffers, numbers, limits and sizes, the table, the
- * operations, two complete examples.
+ * operations, those of measure sheets, three complete examples.
  */
 
 #ifndef MSDTP_H
@@ -27,12 +30,14 @@ extern "C" {
  * 0.5.0 the function that told only a length went: lend msdtp_write an empty
  * output instead; in 0.6.0 a string became one row, with its characters in data
  * words: what makes or walks tables must be changed; in 0.7.0 msdtp_compare came,
- * and with it number 16: the other operations answer as they did in 0.6.0.
+ * and with it number 16; in 0.8.0 msdtp_measure_read and msdtp_measure_write came,
+ * and with them the numbers 20 to 22: the other operations answer as they did in
+ * 0.7.0.
  */
 #define MSDTP_VERSION_MAJOR 0
-#define MSDTP_VERSION_MINOR 7
+#define MSDTP_VERSION_MINOR 8
 #define MSDTP_VERSION_PATCH 0
-#define MSDTP_VERSION "0.7.0"
+#define MSDTP_VERSION "0.8.0"
 
 /*
  * LENT BUFFERS
@@ -76,6 +81,11 @@ typedef char msdtp_size_t_has_64_bits[sizeof(size_t) == 8 ? 1 : -1];
  * msdtp_normalise gives 0 to 11 as reading does, then 14 and 15. What was read
  * is well formed and not too deep, so 12 and 13 are never due.
  * msdtp_compare gives 0, 12 and 16: it looks for 12 in both tables, then for 16.
+ *
+ * msdtp_measure_read gives 0 to 11 as reading does, then 20, 21 and 22, looked for
+ * in this order: each in the whole sheet before the next.
+ * msdtp_measure_write gives 0, 20, 22 and 15, looked for in this order.
+ * No operation gives 17 to 19.
  */
 #define MSDTP_ACCEPTED 0
 #define MSDTP_TOO_LONG 1       /* the message is over MSDTP_BYTE_LIMIT */
@@ -101,6 +111,10 @@ typedef char msdtp_size_t_has_64_bits[sizeof(size_t) == 8 ? 1 : -1];
 #define MSDTP_NORMAL_LONG 14   /* the normal form is over MSDTP_BYTE_LIMIT */
 #define MSDTP_OUTPUT_SHORT 15  /* the lent output is too short */
 #define MSDTP_LIST_SHORT 16    /* the lent list is too short */
+#define MSDTP_NOT_A_SHEET 20   /* the message is no measure sheet (see there), or
+                                  the unit of one to write is neither of the two */
+#define MSDTP_FIGURE_EMPTY 21  /* a figure of the sheet is EMPTY: stop and ask */
+#define MSDTP_FIGURE_RANGE 22  /* a figure is not from 1 to MSDTP_FIGURE_MOST */
 
 /* A number in plain words, for the person who is to be told. Never null. */
 static inline const char *msdtp_meaning(uint64_t number)
@@ -123,6 +137,9 @@ static inline const char *msdtp_meaning(uint64_t number)
     case 14: return "the normal form would be longer than 65,536 bytes";
     case 15: return "the output that was lent is too short";
     case 16: return "the list that was lent is too short";
+    case 20: return "what was given is no measure sheet";
+    case 21: return "a figure of the sheet is EMPTY: stop and ask";
+    case 22: return "a figure of the sheet is not from 1 to 20,000";
     default: return "no number of the list";
     }
 }
@@ -145,6 +162,12 @@ static inline const char *msdtp_meaning(uint64_t number)
 #define MSDTP_TABLE_WORDS 65540  /* always enough for the table of a message */
 #define MSDTP_OUTPUT_BYTES 65536 /* always enough for a normal form */
 #define MSDTP_LIST_WORDS 32768   /* always enough for a list: 16,384 entries */
+
+#define MSDTP_TENTHS_CM 0       /* a sheet's figures are tenths of a centimetre */
+#define MSDTP_EIGHTHS_INCH 1    /* a sheet's figures are eighths of an inch */
+#define MSDTP_FIGURE_MOST 20000 /* the largest figure of a sheet; 1 is the least */
+#define MSDTP_SHEET_WORDS 29    /* always enough for the table of a sheet */
+#define MSDTP_SHEET_BYTES 23    /* always enough for a sheet that is written */
 
 /*
  * THE TABLE
@@ -430,6 +453,117 @@ struct msdtp_comparing msdtp_compare(const uint64_t *left, size_t left_len,
                                      uint64_t *list, size_t list_len);
 
 /*
+ * MEASURE SHEETS
+ *
+ * A measure sheet is a message of exactly one outermost item: an EDT of exactly
+ * seven elements, each of which is one row of its table. In row 0 stands the EDT,
+ * then:
+ *
+ *   row   element        what it is
+ *   1     type           the INT 12, or the string "MEASURE"
+ *   2     version        the INT 1
+ *   3     order number   any INT
+ *   4     unit           XTRA MSDTP_TENTHS_CM or XTRA MSDTP_EIGHTHS_INCH
+ *   5     chest          the figures, in that unit: each an INT from 1 to
+ *   6     waist          MSDTP_FIGURE_MOST, or EMPTY, where it was left out:
+ *   7     sleeve         stop and ask
+ *
+ * A sheet is judged by its items, whatever objects say them: longer forms, STRUC,
+ * USTRUC or STRING for the type, repeats and padding make no difference.
+ *
+ * Reads a message that is a measure sheet, and answers its figures. WITH ANY NUMBER
+ * BUT 0 THERE ARE NO FIGURES: a sheet of which one is EMPTY, or out of range, is
+ * not answered with the other two. The answer:
+ *
+ *   number     place, missing   words                order and all behind it
+ *   0          0                those of the table   those of the sheet
+ *   1 to 11    msdtp_read's     msdtp_read's         0
+ *   20 to 22   0                0                    0
+ *
+ * With 0 these are
+ *
+ *   order                           the order number
+ *   unit                            MSDTP_TENTHS_CM or MSDTP_EIGHTHS_INCH
+ *   chest, waist, sleeve            the figures in that unit, from 1 to
+ *                                   MSDTP_FIGURE_MOST: 0 is never a figure
+ *   chest_um, waist_um, sleeve_um   the figures in micrometres: 1,000 for each
+ *                                   tenth of a centimetre, 3,175 for each eighth
+ *                                   of an inch. That is exact, and at most
+ *                                   63,500,000
+ *
+ * 1 to 11 are those of msdtp_read, with all that it tells: with 2 wait for
+ * `missing` bytes, and with 11 `words` are those needed. Then
+ *
+ *   20   the message is accepted by msdtp_read, and is no measure sheet. It has no
+ *        outermost item, or several; or its one item is no EDT of seven elements;
+ *        or one of these is not what the list above has for it, a figure that is
+ *        neither INT nor EMPTY among them
+ *   21   all is as in the list above, but that a figure is EMPTY, or several are
+ *   22   the same, and none is EMPTY, but a figure is below 1 or over
+ *        MSDTP_FIGURE_MOST, or several are
+ *
+ * So an EMPTY beside a figure that is out of range is 21, and with another unit
+ * besides it is 20.
+ *
+ * With 0, and with 20, 21 and 22 too, the table is as msdtp_read leaves it with 0:
+ * its first words, table[2] + table[3] of them, are the table of the message's
+ * items, and all words after them are as they were. With 21 and 22 its rows are
+ * those of the list above: whoever has to ask finds there what order it is, and
+ * which figure. With 1 to 11 the whole table is as it was.
+ *
+ * A sheet takes 28 words, or MSDTP_SHEET_WORDS if its type is by name. A message
+ * that takes more is no sheet: where so many are lent it is 11, and where as many
+ * as 11 tells, 20. So a caller who wants nothing but sheets need not lend more.
+ *
+ *   C3 0F 8C 81 E2 12 67 F8 E2 03 F8 E2 03 60 E2 02 8A
+ *               0: order 4711, unit 0, figures 1016, 864 and 650, in micrometres
+ *               1016000, 864000 and 650000; 28 words
+ *   C3 0D 8C 81 E2 12 68 F8 FE E2 03 60 E2 02 8A
+ *               21: the chest is EMPTY
+ *   C3 0D 8C 81 E2 12 68 F8 80 E2 03 60 E2 02 8A
+ *               22: the chest is 0
+ *   C3 0D 8C 81 E2 12 68 F8 FC E2 03 60 E2 02 8A
+ *               20: the chest is a BOOL
+ */
+struct msdtp_measure_reading {
+    uint64_t number, place, words, missing;
+    int64_t order;
+    uint64_t unit, chest, waist, sleeve, chest_um, waist_um, sleeve_um;
+};
+
+struct msdtp_measure_reading msdtp_measure_read(const uint8_t *message, size_t message_len,
+                                                uint64_t *table, size_t table_len);
+
+/*
+ * Writes a measure sheet of this order number, unit and figures: the normal form,
+ * with the INT 12 as type and the INT 1 as version.
+ *
+ *   number   length               the output
+ *   0        those of the sheet   its first `length` bytes are the sheet, and all
+ *                                 bytes after them are as they were
+ *   15       those needed         as it was
+ *   20, 22   0                    as it was
+ *
+ * It is 20 where the unit is neither MSDTP_TENTHS_CM nor MSDTP_EIGHTHS_INCH; then
+ * 22 where a figure is 0 or over MSDTP_FIGURE_MOST, as a negative one is that was
+ * made a uint64_t; then 15. A figure that is EMPTY cannot be written, and 21 is not
+ * given.
+ *
+ * The output lent decides only between 0 and 15: it is 15 exactly where the output
+ * is shorter than the sheet. The other numbers and `length` do not depend on it.
+ * A sheet has 9 to 23 bytes: MSDTP_SHEET_BYTES are always enough, and an empty
+ * output, null or not, gets 15 with the length.
+ *
+ * What is written is read back by msdtp_measure_read, in a table of 28 words or
+ * more, with 0 and the same order number, unit and figures. It is one object with no
+ * padding around it: if it is cut, it is always known for that, as told with
+ * msdtp_read.
+ */
+struct msdtp_writing msdtp_measure_write(int64_t order, uint64_t unit, uint64_t chest,
+                                         uint64_t waist, uint64_t sleeve,
+                                         uint8_t *output, size_t output_len);
+
+/*
  * AN EXAMPLE, COMPLETE
  *
  *     #include <inttypes.h>
@@ -637,6 +771,81 @@ struct msdtp_comparing msdtp_compare(const uint64_t *left, size_t left_len,
  *     row 3, 1016; then row 3, 1020
  *     row 4, 864; then row 4, kind 7
  *     row 5, kind 9; then row 7, kind 9
+ */
+
+/*
+ * A THIRD EXAMPLE, COMPLETE: A MEASURE SHEET
+ *
+ *     #include <inttypes.h>
+ *     #include <stdio.h>
+ *     #include "msdtp.h"
+ *
+ *     // Order 4712 in tenths of a centimetre, with an EMPTY for the chest; and a
+ *     // note, which is no sheet.
+ *     static const uint8_t no_chest[] = {
+ *         0xC3, 0x0D, 0x8C, 0x81, 0xE2, 0x12, 0x68, 0xF8, 0xFE,
+ *         0xE2, 0x03, 0x60, 0xE2, 0x02, 0x8A
+ *     };
+ *     static const uint8_t note[] = { 0xC6, 0x03, 'c', 'u', 't' };
+ *     static uint64_t table[MSDTP_SHEET_WORDS];
+ *
+ *     // With 21 the table holds the sheet: the order number in row 3, and from row
+ *     // 5 on the figures.
+ *     static const uint64_t *row(uint64_t at)
+ *     {
+ *         return table + MSDTP_HEADER_WORDS + MSDTP_ROW_WORDS * at;
+ *     }
+ *
+ *     static void stop_and_ask(void)
+ *     {
+ *         static const char *const names[] = { "chest", "waist", "sleeve" };
+ *         for (uint64_t i = 0; i < 3; i++) {
+ *             if (row(5 + i)[0] == MSDTP_EMPTY)
+ *                 printf("order %" PRId64 ": stop and ask for the %s\n",
+ *                        (int64_t)row(3)[2], names[i]);
+ *         }
+ *     }
+ *
+ *     // Cuts with 0, and never with another number: there are no figures then.
+ *     static void draft(const uint8_t *message, size_t length)
+ *     {
+ *         struct msdtp_measure_reading m =
+ *             msdtp_measure_read(message, length, table, MSDTP_SHEET_WORDS);
+ *         if (m.number == MSDTP_ACCEPTED)
+ *             printf("order %" PRId64 ": cut %" PRIu64 ", %" PRIu64 ", %" PRIu64 "\n",
+ *                    m.order, m.chest_um, m.waist_um, m.sleeve_um);
+ *         else if (m.number == MSDTP_FIGURE_EMPTY)
+ *             stop_and_ask();
+ *         else if (m.number == MSDTP_PAST_INPUT)
+ *             printf("cut nothing yet: wait for %" PRIu64 " bytes\n", m.missing);
+ *         else
+ *             printf("cut nothing: %s\n", msdtp_meaning(m.number));
+ *     }
+ *
+ *     int main(void)
+ *     {
+ *         uint8_t sheet[MSDTP_SHEET_BYTES];
+ *         struct msdtp_writing w = msdtp_measure_write(4713, MSDTP_EIGHTHS_INCH,
+ *                                                      320, 272, 204,
+ *                                                      sheet, MSDTP_SHEET_BYTES);
+ *         printf("%s: %" PRIu64 " bytes\n", msdtp_meaning(w.number), w.length);
+ *         if (w.number != MSDTP_ACCEPTED)
+ *             return 1;
+ *         // Nine bytes have come, then all.
+ *         draft(sheet, 9);
+ *         draft(sheet, w.length);
+ *         draft(no_chest, sizeof no_chest);
+ *         draft(note, sizeof note);
+ *         return 0;
+ *     }
+ *
+ * The third prints:
+ *
+ *     accepted: 17 bytes
+ *     cut nothing yet: wait for 8 bytes
+ *     order 4713: cut 1016000, 863600, 647700
+ *     order 4712: stop and ask for the chest
+ *     cut nothing: what was given is no measure sheet
  */
 
 #ifdef __cplusplus

@@ -2,11 +2,12 @@
 # Builds the examples for C and those for Rust and runs them on the messages of examples/. Each 'measure' is run on every message,
 # and what it prints and its exit status are compared with what is stored in examples/c/expected and bindings/rust/expected. Both
 # 'changes' are run on every two messages and print the same with the same exit status, which for some pairs is stored in
-# examples/changes. The archive is that of target/staticlib, or of the folder that MSDTP_LIB_DIR names. The last line is 'N passed,
-# M failed', and the exit status is 0 only when nothing failed.
+# examples/changes. Both 'sheet' write a message of examples/ byte for byte, and what they write is read by 'measure'. The archive
+# is that of target/staticlib, or of the folder that MSDTP_LIB_DIR names. The last line is 'N passed, M failed', and the exit status
+# is 0 only when nothing failed.
 set -u
 crate=msdtp
-messages=8
+messages=10
 pairs=9
 cd "$(dirname "$0")/.." || exit 1
 archive=lib$crate.a
@@ -51,16 +52,40 @@ alike() {
     grep -qE '^exit status [012]$' "$folder/changes.c" && compare "$folder/changes.c" run_rust changes "$1" "$2"
 }
 
-# trouble LANGUAGE FILE..: exit status 2, a word about it on standard error, and nothing on standard output.
+# fails STATUS LANGUAGE EXAMPLE ARGUMENT..: this exit status, a word about it on standard error, and nothing on standard output.
+fails() {
+    with_status "run_$2" "${@:3}" >"$folder/printed" 2>"$folder/said"
+    [ -s "$folder/said" ] && [ "$(cat "$folder/printed")" = "exit status $1" ]
+}
+
+# trouble LANGUAGE FILE..: the changes cannot be told.
 trouble() {
-    with_status "run_$1" changes "${@:2}" >"$folder/printed" 2>"$folder/said"
-    [ -s "$folder/said" ] && [ "$(cat "$folder/printed")" = 'exit status 2' ]
+    fails 2 "$1" changes "${@:2}"
+}
+
+# writes LANGUAGE MESSAGE ARGUMENT..: the sheet of these arguments is this message.
+writes() {
+    "run_$1" sheet "${@:3}" >"$folder/sheet.msg" && cmp "$folder/sheet.msg" "$2"
+}
+
+# refused LANGUAGE ARGUMENT..: the sheet of these arguments is refused with 22, in words.
+refused() {
+    fails 1 "$1" sheet "${@:2}" && [ "$(cat "$folder/said")" = 'refused 22: a figure of the sheet is not from 1 to 20,000' ]
+}
+
+# measured LANGUAGE OTHER: a sheet that one language writes is read by the other.
+measured() {
+    "run_$1" sheet -4711 eighths 1 272 20000 >"$folder/sheet.msg" || return
+    "run_$2" measure "$folder/sheet.msg" | head -n 4 | diff - <(
+        printf 'order -4711, in eighths of an inch\n  chest 1, 3175 micrometres\n'
+        printf '  waist 272, 863600 micrometres\n  sleeve 20000, 63500000 micrometres\n'
+    )
 }
 
 if [ -z "$library" ] || [ ! -f "$library/$archive" ]; then
     lacking "The archive $archive is not there. Build it with rt staticlib $crate, or set MSDTP_LIB_DIR to its folder."
 fi
-for example in measure changes; do
+for example in measure changes sheet; do
     check "C example $example: build" build_c "$example"
     check "Rust example $example: build" cargo_example build "$example"
 done
@@ -89,5 +114,15 @@ for language in c rust; do
     check "changes in $language: one file" trouble "$language" examples/note.msg
     check "changes in $language: three files" trouble "$language" examples/note.msg examples/note.msg examples/note.msg
     check "changes in $language: no such file" trouble "$language" examples/note.msg examples/none.msg
+    check "measure in $language: no such file" fails 2 "$language" measure examples/none.msg
+    check "sheet in $language: order 4711" writes "$language" examples/measure.msg 4711 tenths 1016 864 650
+    check "sheet in $language: a figure of 0" refused "$language" 4711 tenths 0 864 650
+    check "sheet in $language: a figure of 20,001" refused "$language" 4711 eighths 1016 864 20001
+    check "sheet in $language: another unit" fails 2 "$language" sheet 4711 inches 1016 864 650
+    check "sheet in $language: an EMPTY" fails 2 "$language" sheet 4711 tenths EMPTY 864 650
+    check "sheet in $language: a negative figure" fails 2 "$language" sheet 4711 tenths 1016 -864 650
+    check "sheet in $language: two figures" fails 2 "$language" sheet 4711 tenths 1016 864
 done
+check 'a sheet from C to Rust' measured c rust
+check 'a sheet from Rust to C' measured rust c
 end

@@ -1,14 +1,15 @@
 /*
- * Lists the items of a message, or prints why it is refused, then prints the
- * normal form. From the repository's root, once `rt staticlib msdtp` has
- * made the archive:
+ * Prints the figures of a measure sheet and its normal form, or why there are no
+ * figures. From the repository's root, once `rt staticlib msdtp` has made the
+ * archive:
  *
  *   gcc -std=c99 -Wall -Wextra -pedantic -Iinclude examples/c/measure.c target/staticlib/libmsdtp.a -o target/measure
  *   target/measure examples/empty-chest.msg
  *
- * The exit status is 0 for a message that is read, 1 for one that is refused,
- * and 2 for a file that cannot be read. Of a refused one it also says whether
- * its tail may be late, and then for how many bytes to wait.
+ * The exit status is 0 for a sheet with its figures, 1 for a message that is
+ * refused, and 2 for a file that cannot be read. Of a refused one it also says what
+ * there is to do: which figures to ask for; for how many bytes to wait, if its tail
+ * may be late; or, if it is no measure sheet, what its items are.
  */
 
 #include <inttypes.h>
@@ -23,7 +24,7 @@ static uint8_t message[MESSAGE_BYTES];
 static uint64_t table[MSDTP_TABLE_WORDS];
 static uint8_t output[MSDTP_OUTPUT_BYTES];
 
-/* Prints a refusal. Writing's have no place, and only 2 and 3 have bytes missing. */
+/* Prints a refusal. Only reading's, to 11, have a place, and only 2 and 3 bytes missing. */
 static void print_refused(uint64_t number, uint64_t place, uint64_t missing)
 {
     printf("refused %" PRIu64, number);
@@ -140,20 +141,43 @@ static void print_rows(void)
     }
 }
 
-/* Reads the message, then lists it. The table then holds its items. */
-static int list(size_t length)
+/* Prints one figure, in the sheet's unit and in micrometres. */
+static void print_figure(const char *name, uint64_t figure, uint64_t micrometres)
 {
-    struct msdtp_reading reading = msdtp_read(message, length, table, MSDTP_TABLE_WORDS);
+    printf("  %s %" PRIu64 ", %" PRIu64 " micrometres\n", name, figure, micrometres);
+}
 
-    if (reading.number != MSDTP_ACCEPTED) {
-        print_refused(reading.number, reading.place, reading.missing);
-        print_wait(reading.number, reading.missing, length);
-        return 1;
+static void print_figures(const struct msdtp_measure_reading *sheet)
+{
+    printf("order %" PRId64 ", in %s\n", sheet->order,
+           sheet->unit == MSDTP_TENTHS_CM ? "tenths of a centimetre" : "eighths of an inch");
+    print_figure("chest", sheet->chest, sheet->chest_um);
+    print_figure("waist", sheet->waist, sheet->waist_um);
+    print_figure("sleeve", sheet->sleeve, sheet->sleeve_um);
+}
+
+/*
+ * Prints what to ask for, of a sheet that was refused with 21 or 22: the table
+ * holds its order number in row 3, and its figures in rows 5 to 7.
+ */
+static void print_questions(void)
+{
+    static const char *const names[] = { "chest", "waist", "sleeve" };
+    const uint64_t *rows = table + MSDTP_HEADER_WORDS;
+    const int64_t order = (int64_t)rows[MSDTP_ROW_WORDS * 3 + 2];
+    int at;
+
+    for (at = 0; at < 3; at++) {
+        const uint64_t *row = rows + MSDTP_ROW_WORDS * (5 + at);
+        const int64_t figure = (int64_t)row[2];
+
+        if (row[0] == MSDTP_EMPTY) {
+            printf("order %" PRId64 ": ask for the %s, which is EMPTY\n", order, names[at]);
+        } else if (figure < 1 || figure > MSDTP_FIGURE_MOST) {
+            printf("order %" PRId64 ": ask for the %s, which is %" PRId64 "\n",
+                   order, names[at], figure);
+        }
     }
-    printf("accepted: %" PRIu64 " outermost, %" PRIu64 " rows, %" PRIu64 " words\n",
-           table[1], table[0], reading.words);
-    print_rows();
-    return 0;
 }
 
 /* Normalises the message, then prints its normal form. */
@@ -176,6 +200,37 @@ static int print_normal_form(size_t length)
     return 0;
 }
 
+/*
+ * Reads the message as a measure sheet, and prints it or what there is to do. A
+ * table for any message is lent, so that one that is no sheet can be listed.
+ */
+static int print_message(size_t length)
+{
+    struct msdtp_measure_reading sheet =
+        msdtp_measure_read(message, length, table, MSDTP_TABLE_WORDS);
+
+    if (sheet.number == MSDTP_ACCEPTED) {
+        print_figures(&sheet);
+        return print_normal_form(length);
+    }
+    print_refused(sheet.number, sheet.place, sheet.missing);
+    switch (sheet.number) {
+    case MSDTP_FIGURE_EMPTY:
+    case MSDTP_FIGURE_RANGE:
+        print_questions();
+        break;
+    case MSDTP_NOT_A_SHEET:
+        printf("its items: %" PRIu64 " outermost, %" PRIu64 " rows, %" PRIu64 " words\n",
+               table[1], table[0], table[2] + table[3]);
+        print_rows();
+        print_normal_form(length);
+        break;
+    default:
+        print_wait(sheet.number, sheet.missing, length);
+    }
+    return 1;
+}
+
 int main(int count, char **arguments)
 {
     const char *name = count > 1 ? arguments[1] : "examples/empty-chest.msg";
@@ -194,6 +249,5 @@ int main(int count, char **arguments)
         fprintf(stderr, "%s cannot be read\n", name);
         return 2;
     }
-    failed = list(length);
-    return failed ? failed : print_normal_form(length);
+    return print_message(length);
 }

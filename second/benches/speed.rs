@@ -1,7 +1,8 @@
 //! How long reading, writing and comparing take, by kind of message. To ask is to
-//! write with an empty output lent; a message's table is compared with itself.
+//! write with an empty output lent; a message's table is compared with itself. To
+//! measure is to read the message as a measure sheet.
 
-use second::{compare, normalise, read, write};
+use second::{compare, measure_read, measure_write, normalise, read, write};
 use std::hint::black_box;
 use std::time::Instant;
 
@@ -45,6 +46,13 @@ fn letter() -> Vec<u8> {
     sized(0xC3, &[vec![0x85, 0x81], date, from, text].concat())
 }
 
+/// A measure sheet of seventeen bytes.
+fn measure_sheet() -> Vec<u8> {
+    let mut output = [0; 17];
+    measure_write(4_712, 0, 1_000, 800, 650, &mut output);
+    output.to_vec()
+}
+
 /// Two hundred of a message, without the last byte.
 fn cut_short(message: Vec<u8>) -> Vec<u8> {
     let mut many = message.repeat(200);
@@ -62,6 +70,7 @@ fn small_loads() -> Vec<Load> {
             1,
         ),
         load("letter", "message", letter(), 1),
+        load("measure sheet", "message", measure_sheet(), 1),
         load("refused at once", "message", vec![0xC0], 1),
     ]
 }
@@ -157,7 +166,11 @@ fn measure(load: &Load, calls: usize) {
     let comparing = shortest(calls, || {
         black_box(compare(black_box(given), black_box(given), &mut []));
     });
-    line(load, &[reading, writing, asking, both, comparing]);
+    let measuring = shortest(calls, || {
+        black_box(measure_read(black_box(message), &mut table));
+    });
+    let times = [reading, writing, asking, both, comparing, measuring];
+    line(load, &times);
 }
 
 /// Times for each unit.
@@ -169,8 +182,8 @@ fn line(load: &Load, times: &[f64]) {
 
 fn main() {
     println!(
-        "{:24} {:9} {:>9} {:>9} {:>9} {:>9} {:>9}",
-        "ns for a", "", "read", "write", "ask", "normalise", "compare"
+        "{:24} {:9} {:>9} {:>9} {:>9} {:>9} {:>9} {:>9}",
+        "ns for a", "", "read", "write", "ask", "normalise", "compare", "measure"
     );
     let small = small_loads().into_iter().map(|load| (load, 50_000));
     let large = large_loads().into_iter().chain(loads_of_strings());
@@ -178,4 +191,10 @@ fn main() {
     for (load, calls) in small.chain(large) {
         measure(&load, calls);
     }
+    let mut output = [0; 23];
+    let sheet = shortest(50_000, || {
+        let order = black_box(4_712);
+        black_box(measure_write(order, 0, 1_000, 800, 650, &mut output));
+    });
+    println!("a measure sheet is written in {sheet:.2} ns");
 }

@@ -28,6 +28,9 @@ pub const ITEMS_TOO_DEEP: u64 = 13;
 pub const FORM_TOO_LONG: u64 = 14;
 pub const OUTPUT_TOO_SHORT: u64 = 15;
 pub const LIST_TOO_SHORT: u64 = 16;
+pub const NOT_A_SHEET: u64 = 20;
+pub const FIGURE_EMPTY: u64 = 21;
+pub const FIGURE_OUT_OF_RANGE: u64 = 22;
 
 /// What reading answers: the words are those used with number 0, those needed
 /// with number 11, and otherwise 0. The missing bytes are those wanting with
@@ -65,6 +68,26 @@ pub struct Normalising {
 pub struct Comparing {
     pub number: u64,
     pub entries: u64,
+}
+
+/// What reading a measure sheet answers: as reading does with all that it refuses,
+/// and otherwise 0 with the words used and what the sheet says, or a number of its
+/// own and nothing else.
+#[derive(Clone, Copy, Debug, PartialEq, Eq)]
+pub struct MeasureReading {
+    pub number: u64,
+    pub place: u64,
+    pub words: u64,
+    pub missing: u64,
+    pub order: i64,
+    /// 0 for tenths of a centimetre, 1 for eighths of an inch.
+    pub unit: u64,
+    pub chest: u64,
+    pub waist: u64,
+    pub sleeve: u64,
+    pub chest_um: u64,
+    pub waist_um: u64,
+    pub sleeve_um: u64,
 }
 
 /// A fault met in a message, at the offset of the faulty object's type-byte.

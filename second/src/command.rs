@@ -6,6 +6,8 @@
 //! | `write BYTES WORD..` | `number N length L stray S output HEX` |
 //! | `normalise HEX WORDS BYTES` | `number N place P words W length L missing M stray S table WORD.. output HEX` |
 //! | `compare WORDS WORD.. / WORD..` | `number N entries E stray S list ROW..` |
+//! | `measure_read HEX WORDS` | `number N place P words W missing M order O unit U figures C W S micrometres C W S stray S table WORD..` |
+//! | `measure_write BYTES ORDER UNIT CHEST WAIST SLEEVE` | `number N length L stray S output HEX` |
 //! | `list HEX` | `text` and the listing, each of its newlines as `\n` |
 //!
 //! HEX is a run of hexadecimal digits, two for each byte, or `-` for no bytes;
@@ -13,7 +15,8 @@
 //! up to the words used, an output up to the length written; where nothing was
 //! to be written there are no words, and `-` for the output. `write 0 WORD..`
 //! asks the length alone. `compare` is given two tables with a `/` between them,
-//! and a list of so many words; the entries listed are two rows each. With
+//! and a list of so many words; the entries listed are two rows each.
+//! `measure_read` answers the table that was read with 20, 21 and 22 too. With
 //! numbers 2 and 3, `missing` tells how many bytes are wanting, at most 65,536;
 //! otherwise 0.
 //! The room is filled beforehand with numbers that say nothing; `stray` counts
@@ -21,14 +24,16 @@
 //! answered with `error: ` and a help in one line.
 
 use crate::answers::{ACCEPTED, TABLE_TOO_SHORT};
-use crate::{compare, listing, normalise, read, write};
+use crate::{compare, listing, measure_read, measure_write, normalise, read, write, Writing};
 use std::fmt::Write as _;
 
 /// The most words or bytes that a request may lend.
 const MOST_LENT: usize = 1 << 20;
 
 const HELP: &str = "read HEX WORDS | write BYTES WORD.. | normalise HEX WORDS BYTES | \
-                    compare WORDS WORD.. / WORD.. | list HEX (HEX is - for no bytes)";
+                    compare WORDS WORD.. / WORD.. | measure_read HEX WORDS | \
+                    measure_write BYTES ORDER UNIT CHEST WAIST SLEEVE | \
+                    list HEX (HEX is - for no bytes)";
 
 /// The answer to one request, without a newline.
 pub fn answer(request: &str) -> String {
@@ -51,10 +56,15 @@ fn answer_to(request: &str) -> Result<String, String> {
             lent(room)?,
         )),
         ("compare", [list, tables @ ..]) => compare_request(lent(list)?, tables),
-        ("list", [message]) => Ok(list_answer(&bytes(message)?)),
-        ("read" | "write" | "normalise" | "compare" | "list", _) => {
-            Err(format!("{name} has other fields"))
+        ("measure_read", [message, words]) => {
+            Ok(measure_read_answer(&bytes(message)?, lent(words)?))
         }
+        ("measure_write", [room, order, sheet @ ..]) if sheet.len() == 4 => {
+            measure_write_request(lent(room)?, order, &words(sheet)?)
+        }
+        ("list", [message]) => Ok(list_answer(&bytes(message)?)),
+        ("read" | "write" | "normalise" | "compare" | "list", _)
+        | ("measure_read" | "measure_write", _) => Err(format!("{name} has other fields")),
         _ => Err("no such request".to_string()),
     }
 }
@@ -78,6 +88,11 @@ fn read_answer(message: &[u8], lent: usize) -> String {
 fn write_answer(lent: usize, table: &[u64]) -> String {
     let mut output = poisoned_bytes(lent);
     let writing = write(table, &mut output);
+    written_answer(writing, &output)
+}
+
+/// The answer of writing, and the output that it left.
+fn written_answer(writing: Writing, output: &[u8]) -> String {
     let used = if writing.number == ACCEPTED {
         writing.length as usize
     } else {
@@ -133,6 +148,39 @@ fn compare_answer(lent: usize, left: &[u64], right: &[u64]) -> String {
         comparing.number, comparing.entries
     );
     with_words(head, &list[..used])
+}
+
+fn measure_read_answer(message: &[u8], lent: usize) -> String {
+    let mut table = poisoned_words(lent);
+    let answer = measure_read(message, &mut table);
+    let has_read = answer.number == ACCEPTED || answer.number > TABLE_TOO_SHORT;
+    let used = match has_read {
+        true => (table[2] + table[3]) as usize,
+        false => 0,
+    };
+    let stray = stray_words(&table[used..], used);
+    let base = format!(
+        "number {} place {} words {} missing {}",
+        answer.number, answer.place, answer.words, answer.missing
+    );
+    let sheet = format!(
+        "order {} unit {} figures {} {} {}",
+        answer.order, answer.unit, answer.chest, answer.waist, answer.sleeve
+    );
+    let micrometres = format!(
+        "micrometres {} {} {}",
+        answer.chest_um, answer.waist_um, answer.sleeve_um
+    );
+    let head = format!("{base} {sheet} {micrometres} stray {stray} table");
+    with_words(head, &table[..used])
+}
+
+/// Of the sheet there are the unit and the three figures.
+fn measure_write_request(lent: usize, order: &str, sheet: &[u64]) -> Result<String, String> {
+    let order = order.parse().map_err(|_| format!("{order} is no order"))?;
+    let mut output = poisoned_bytes(lent);
+    let writing = measure_write(order, sheet[0], sheet[1], sheet[2], sheet[3], &mut output);
+    Ok(written_answer(writing, &output))
 }
 
 fn list_answer(message: &[u8]) -> String {

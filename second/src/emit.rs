@@ -11,6 +11,12 @@ pub fn normal_form(rows: &[Row], data: &[u64], output: &mut [u8]) {
     Emitting { data, output }.run(rows, 0);
 }
 
+/// Writes an INT's normal form from `at` on, and tells its length. Bytes behind it
+/// may change: they are to be written next.
+pub fn integer(output: &mut [u8], value: u64, at: usize) -> usize {
+    Emitting { data: &[], output }.integer(value, at)
+}
+
 struct Emitting<'t> {
     data: &'t [u64],
     output: &'t mut [u8],

@@ -5,6 +5,8 @@
 //! its normal form before a byte of the lent output changes, then writes it.
 //! Comparing judges two whole tables and counts their differences before a word
 //! of the lent list changes, then lists them.
+//! A measure sheet is read by reading a message and looking at the rows of its
+//! table, and written byte by byte.
 //! None of them takes memory of its own beyond a small stack.
 
 #![forbid(unsafe_code)]
@@ -23,6 +25,7 @@ mod integers;
 mod judge;
 mod kinds;
 mod listing;
+mod measure;
 mod normal;
 mod read;
 mod scan;
@@ -32,10 +35,11 @@ mod strings;
 mod summary;
 mod write;
 
-pub use answers::{Comparing, Normalising, Reading, Writing};
+pub use answers::{Comparing, MeasureReading, Normalising, Reading, Writing};
 pub use answers::{MOST_BYTES, MOST_DATA_WORDS, MOST_MISSING, MOST_NESTED, MOST_ROWS};
 pub use compare::compare;
 pub use listing::{listing, LISTING_BYTES, LISTING_WORDS};
+pub use measure::{measure_read, measure_write};
 pub use normal::normalise;
 pub use read::read;
 pub use write::write;

@@ -13,14 +13,23 @@ pub fn write(table: &[u64], output: &mut [u8]) -> Writing {
         Ok(judged) => judged,
         Err(number) => return answer(number, 0),
     };
+    written(length, output, |room| {
+        emit::normal_form(parts.rows, parts.data, room)
+    })
+}
+
+/// Lets so many bytes be put into the output, if it has room for them.
+#[inline(always)]
+pub fn written(length: usize, output: &mut [u8], put: impl FnOnce(&mut [u8])) -> Writing {
     match output.get_mut(..length) {
-        Some(room) => emit::normal_form(parts.rows, parts.data, room),
+        Some(room) => put(room),
         None => return answer(OUTPUT_TOO_SHORT, length),
     }
     answer(ACCEPTED, length)
 }
 
-fn answer(number: u64, length: usize) -> Writing {
+/// A number, with the length that is told with it.
+pub fn answer(number: u64, length: usize) -> Writing {
     Writing {
         number,
         length: length as u64,

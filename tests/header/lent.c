@@ -8,7 +8,7 @@
 uint64_t table[WORDS], made[WORDS], other[WORDS], list[LIST];
 uint8_t message[BYTES], output[BYTES];
 int failed;
-int answered[MSDTP_LIST_SHORT + 1];
+int answered[MSDTP_FIGURE_RANGE + 1];
 
 const char *meaning_elsewhere(uint64_t number)
 {
@@ -21,8 +21,7 @@ void check(const char *name, int good)
     failed = failed || !good;
 }
 
-/* Whether a number is the one expected, which then counts as met. */
-static int is(uint64_t number, uint64_t expected)
+int is(uint64_t number, uint64_t expected)
 {
     if (number != expected) {
         return 0;
@@ -42,8 +41,7 @@ void refill_list(size_t room)
     memset(list, FILLER, (room + MORE) * sizeof *list);
 }
 
-/* Whether all bytes of a buffer from one of them on are as filled. */
-static int untouched(const void *buffer, size_t from, size_t length)
+int untouched(const void *buffer, size_t from, size_t length)
 {
     const uint8_t *bytes = (const uint8_t *)buffer;
 

@@ -19,11 +19,17 @@ extern uint8_t message[BYTES], output[BYTES];
 /* Whether a check failed. */
 extern int failed;
 
-/* The numbers from 0 to 16 that were answered as expected. */
-extern int answered[MSDTP_LIST_SHORT + 1];
+/* The numbers, by themselves, that were answered as expected. */
+extern int answered[MSDTP_FIGURE_RANGE + 1];
+
+/* Whether a number is the one expected, which then counts as answered. */
+int is(uint64_t number, uint64_t expected);
 
 /* Prints a check's line. */
 void check(const char *name, int good);
+
+/* Whether all bytes of a buffer that was filled, from one of them on, are as filled. */
+int untouched(const void *buffer, size_t from, size_t length);
 
 /* Fills the table and the output; whether they are as filled from there on. */
 void refill(void);
@@ -71,7 +77,10 @@ int made_is_read(size_t words);
 /* msdtp_meaning as another translation unit has it. */
 const char *meaning_elsewhere(uint64_t number);
 
-/* The checks of tables.c, strings.c, writing.c, missing.c, cuts.c, joining.c, comparing.c and limits.c. */
+/*
+ * The checks of tables.c, strings.c, writing.c, missing.c, cuts.c, joining.c,
+ * comparing.c, measure.c, measure_passed.c, measure_writing.c and limits.c.
+ */
 void check_tables(void);
 void check_strings(void);
 void check_writing(void);
@@ -79,6 +88,9 @@ void check_missing(void);
 void check_cuts(void);
 void check_joining(void);
 void check_comparing(void);
+void check_measure_reading(void);
+void check_measure_passed(void);
+void check_measure_writing(void);
 void check_limits(void);
 
 #endif

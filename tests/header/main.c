@@ -16,7 +16,7 @@ static void check_layout(const char *version)
 
     check("struct sizes", sizeof(struct msdtp_reading) == 32
           && sizeof(struct msdtp_writing) == 16 && sizeof(struct msdtp_normalising) == 40
-          && sizeof(struct msdtp_comparing) == 16);
+          && sizeof(struct msdtp_comparing) == 16 && sizeof(struct msdtp_measure_reading) == 96);
     sprintf(parts, "%d.%d.%d", MSDTP_VERSION_MAJOR, MSDTP_VERSION_MINOR, MSDTP_VERSION_PATCH);
     check("version in parts", strcmp(parts, MSDTP_VERSION) == 0);
     check("version of the Rust crate", strcmp(version, MSDTP_VERSION) == 0);
@@ -25,6 +25,8 @@ static void check_layout(const char *version)
     check("always enough bytes", MSDTP_OUTPUT_BYTES == MSDTP_BYTE_LIMIT);
     check("always enough words of a list",
           MSDTP_LIST_WORDS == MSDTP_DIFFERENCE_WORDS * MSDTP_ROW_LIMIT);
+    check("words of a sheet by name",
+          MSDTP_SHEET_WORDS == MSDTP_HEADER_WORDS + 8 * MSDTP_ROW_WORDS + 1);
 }
 
 /* The fields stand one after another, in the order of the header. */
@@ -45,25 +47,47 @@ static void check_fields(void)
           && offsetof(struct msdtp_comparing, entries) == 8);
 }
 
-/* Each number has words of its own, the same in both translation units. */
+static void check_measure_fields(void)
+{
+    check("fields of a measure reading", offsetof(struct msdtp_measure_reading, number) == 0
+          && offsetof(struct msdtp_measure_reading, place) == 8
+          && offsetof(struct msdtp_measure_reading, words) == 16
+          && offsetof(struct msdtp_measure_reading, missing) == 24
+          && offsetof(struct msdtp_measure_reading, order) == 32
+          && offsetof(struct msdtp_measure_reading, unit) == 40
+          && offsetof(struct msdtp_measure_reading, chest) == 48
+          && offsetof(struct msdtp_measure_reading, waist) == 56
+          && offsetof(struct msdtp_measure_reading, sleeve) == 64
+          && offsetof(struct msdtp_measure_reading, chest_um) == 72
+          && offsetof(struct msdtp_measure_reading, waist_um) == 80
+          && offsetof(struct msdtp_measure_reading, sleeve_um) == 88);
+}
+
+/* Whether an operation gives the number: none gives 17 to 19. */
+static int is_given(uint64_t number)
+{
+    return number <= MSDTP_LIST_SHORT || (number >= MSDTP_NOT_A_SHEET && number <= MSDTP_FIGURE_RANGE);
+}
+
+/* Each number has words of its own, the same in both translation units, and all others have one meaning. */
 static void check_meanings(void)
 {
-    const uint64_t last = MSDTP_LIST_SHORT;
+    const char *no_number = msdtp_meaning(UINT64_MAX);
     uint64_t number, other;
-    int good = 1;
+    int good = 1, others = 1;
 
-    for (number = 0; number <= last + 1; number++) {
+    for (number = 0; number <= 2 * MSDTP_FIGURE_RANGE; number++) {
         const char *words = msdtp_meaning(number);
 
         good = good && words != NULL && *words && strcmp(words, meaning_elsewhere(number)) == 0;
-        for (other = 0; good && other < number; other++) {
+        for (other = 0; good && is_given(number) && other < number; other++) {
             good = strcmp(words, msdtp_meaning(other)) != 0;
         }
+        others = others && is_given(number) == (strcmp(words, no_number) != 0);
     }
     check("a meaning for each number", good);
     check("accepted", strcmp(msdtp_meaning(MSDTP_ACCEPTED), "accepted") == 0);
-    check("one meaning for what is no number",
-          strcmp(msdtp_meaning(last + 1), msdtp_meaning(UINT64_MAX)) == 0);
+    check("one meaning for what is no number", others);
 }
 
 /* The refusals of reading that few bytes get, but for 2 and 3. */
@@ -132,7 +156,7 @@ static void check_numbers(void)
     int all = 1;
 
     for (number = 0; number < sizeof answered / sizeof *answered; number++) {
-        all = all && answered[number];
+        all = all && answered[number] == is_given(number);
     }
     check("each number answered", all);
 }
@@ -141,6 +165,7 @@ int main(int count, char **arguments)
 {
     check_layout(count > 1 ? arguments[1] : "");
     check_fields();
+    check_measure_fields();
     check_meanings();
     check_tables();
     check_strings();
@@ -150,6 +175,9 @@ int main(int count, char **arguments)
     check_cuts();
     check_joining();
     check_comparing();
+    check_measure_reading();
+    check_measure_passed();
+    check_measure_writing();
     check_one_kind();
     check_null();
     check_limits();

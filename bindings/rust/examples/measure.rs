@@ -1,22 +1,27 @@
-//! Prints the figures of the measure sheets in a message, or why it is refused.
+//! Prints the figures of a measure sheet, or why there are none.
 //!
 //! ```text
 //! cargo run --release --offline --locked --example measure -- FILE
 //! ```
 //!
 //! Without a file it takes `examples/empty-chest.msg` of the repository. The
-//! exit status is 0 for a message that is read, 1 for one that is refused, and
-//! 2 for a file that cannot be opened. Of a refused one it also says whether its
-//! tail may be late, and then for how many bytes to wait.
+//! exit status is 0 for a sheet with its figures, 1 for a message that is refused,
+//! and 2 for a file that cannot be opened. Of a refused one it also says what there
+//! is to do: which figures to ask for; for how many bytes to wait, if its tail may
+//! be late; or, if it is no measure sheet, what its items are.
 
-use msdtp::{numbers::PAST_INPUT, read, rows, Refused, Row, Rows, BYTE_LIMIT, TABLE_WORDS};
+mod words;
+
+use msdtp::numbers::{FIGURE_EMPTY, FIGURE_RANGE, NOT_A_SHEET, PAST_INPUT};
+use msdtp::{measure_read, rows, Measured, Refused, Row, Rows};
+use msdtp::{BYTE_LIMIT, FIGURE_MOST, TABLE_WORDS};
+use std::ops::RangeInclusive;
 use std::path::{Path, PathBuf};
 use std::process::ExitCode;
+use words::in_words;
 
-/// The type of a measure sheet, by number and by name.
-const TYPE_NUMBER: i64 = 12;
-const TYPE_NAME: &str = "MEASURE";
-const UNITS: [&str; 2] = ["tenths of a centimetre", "eighths of an inch"];
+/// The figures that a sheet may have.
+const RANGE: RangeInclusive<i64> = 1..=FIGURE_MOST as i64;
 
 fn main() -> ExitCode {
     let path = std::env::args_os().nth(1).map(PathBuf::from);
@@ -34,19 +39,66 @@ fn example() -> PathBuf {
     Path::new(env!("CARGO_MANIFEST_DIR")).join("../../examples/empty-chest.msg")
 }
 
+/// Prints a sheet, or what there is to do. A table for any message is lent, so that
+/// one that is no sheet can be listed.
 fn print_message(message: &[u8]) -> ExitCode {
     let mut table = vec![0; TABLE_WORDS];
-    match read(message, &mut table) {
-        Ok(read) => {
-            let items = rows(&table[..read.words]).items();
-            items.for_each(|(row, beneath)| print_item(row, beneath));
+    match measure_read(message, &mut table) {
+        Ok(measured) => {
+            print_figures(&measured);
             ExitCode::SUCCESS
         }
         Err(refused) => {
             println!("{refused}");
-            print_wait(refused, message.len());
+            match refused.number {
+                FIGURE_EMPTY | FIGURE_RANGE => print_questions(rows(&table)),
+                NOT_A_SHEET => {
+                    println!("its items:");
+                    print_items(rows(&table), 0)
+                }
+                _ => print_wait(refused, message.len()),
+            }
             ExitCode::FAILURE
         }
+    }
+}
+
+/// Prints the order and its figures.
+fn print_figures(measured: &Measured) {
+    let (sheet, micrometres) = (measured.sheet, measured.micrometres);
+    println!("order {}, in {}", sheet.order, sheet.unit);
+    for (name, figure, exactly) in [
+        ("chest", sheet.chest, micrometres.chest),
+        ("waist", sheet.waist, micrometres.waist),
+        ("sleeve", sheet.sleeve, micrometres.sleeve),
+    ] {
+        println!("  {name} {figure}, {exactly} micrometres");
+    }
+}
+
+/// Prints what to ask for, of a sheet that was refused with 21 or 22: its order
+/// number is in row 3, and its figures are in rows 5 to 7.
+fn print_questions(rows: Rows) {
+    let rows: Vec<Row> = rows.collect();
+    let [_, _, _, Row::Int(order), _, chest, waist, sleeve] = rows[..] else {
+        return;
+    };
+    for (name, figure) in [("chest", chest), ("waist", waist), ("sleeve", sleeve)] {
+        match figure {
+            Row::Empty => println!("order {order}: ask for the {name}, which is EMPTY"),
+            Row::Int(value) if !RANGE.contains(&value) => {
+                println!("order {order}: ask for the {name}, which is {value}")
+            }
+            _ => {}
+        }
+    }
+}
+
+/// Prints items, each with its elements farther to the right.
+fn print_items(rows: Rows, depth: usize) {
+    for (row, beneath) in rows.items() {
+        println!("{:1$}{2}", "", 2 * depth, in_words(row));
+        print_items(beneath, depth + 1);
     }
 }
 
@@ -58,50 +110,5 @@ fn print_wait(refused: Refused, length: usize) {
         println!("wait for {} more bytes", refused.missing);
     } else {
         println!("more bytes will not help");
-    }
-}
-
-/// Prints an outermost item: a measure sheet line by line, a string as a note,
-/// and of anything else only that it is neither.
-fn print_item(row: Row, beneath: Rows) {
-    match row {
-        Row::Edt { .. } => print_edt(beneath),
-        Row::Text(note) => println!("note {note:?}"),
-        _ => println!("no measure sheet: {row:?}"),
-    }
-}
-
-/// Whether an EDT's first element is the type of a measure sheet.
-fn is_measure(first: Row) -> bool {
-    match first {
-        Row::Int(number) => number == TYPE_NUMBER,
-        Row::Text(name) => name == TYPE_NAME,
-        _ => false,
-    }
-}
-
-/// Prints an EDT by its elements: type, version, order number, unit, chest,
-/// waist and sleeve, if it is a measure sheet.
-fn print_edt(beneath: Rows) {
-    let rows: Vec<Row> = beneath.items().map(|(row, _)| row).collect();
-    match rows[..] {
-        [first, Row::Int(1), Row::Int(order), Row::Xtra(unit @ 0..=1), chest, waist, sleeve]
-            if is_measure(first) =>
-        {
-            println!("order {order}, in {}", UNITS[usize::from(unit)]);
-            print_figure("chest", chest);
-            print_figure("waist", waist);
-            print_figure("sleeve", sleeve);
-        }
-        _ => println!("no measure sheet: an EDT of {} elements", rows.len()),
-    }
-}
-
-/// Prints a figure, or that there is none to cut by.
-fn print_figure(name: &str, figure: Row) {
-    match figure {
-        Row::Int(value) => println!("  {name} {value}"),
-        Row::Empty => println!("  {name} EMPTY: stop and ask"),
-        other => println!("  {name} is no figure: {other:?}"),
     }
 }

@@ -1,5 +1,5 @@
-//! Messages of the MSDTP (RFC 713): reading, writing, normalising and comparing,
-//! by the product's proved static library.
+//! Messages of the MSDTP (RFC 713): reading, writing, normalising and comparing;
+//! and measure sheets; by the product's proved static library.
 //!
 //! Every operation works in slices that the caller lends. Nothing is allocated,
 //! no state is kept between calls, and a refused operation leaves untouched
@@ -23,7 +23,8 @@
 //! # Ok::<(), msdtp::Refused>(())
 //! ```
 //!
-//! What changed from one message to another is told by [`compare`].
+//! What changed from one message to another is told by [`compare`]. The figures of
+//! a measure sheet are told by [`measure_read`], and [`measure_write`] writes one.
 
 #![deny(unsafe_code, missing_docs)]
 
@@ -32,6 +33,7 @@ mod comparing;
 pub mod kinds;
 #[allow(unsafe_code)]
 mod library;
+mod measure;
 pub mod numbers;
 mod operations;
 mod refused;
@@ -42,6 +44,7 @@ mod text;
 
 pub use bits::Bits;
 pub use comparing::{compare, Difference, Differences};
+pub use measure::{measure_read, measure_write, Measured, Micrometres, Sheet, Unit};
 pub use operations::{normalise, read, write, Normalised, Read};
 pub use refused::Refused;
 pub use rows::{rows, Items, Row, Rows};
@@ -82,3 +85,13 @@ pub const OUTPUT_BYTES: usize = BYTE_LIMIT;
 /// So many words are enough for the list of every two tables: an entry for each
 /// row that there may be.
 pub const LIST_WORDS: usize = DIFFERENCE_WORDS * ROW_LIMIT;
+
+/// The largest figure of a measure sheet; the least is 1.
+pub const FIGURE_MOST: u64 = 20_000;
+
+/// So many words are enough for the table of every measure sheet: the header, a row
+/// for the EDT and for each of its seven elements, and the word of its type's name.
+pub const SHEET_WORDS: usize = HEADER_WORDS + 8 * ROW_WORDS + 1;
+
+/// So many bytes are enough for every measure sheet that is written.
+pub const SHEET_BYTES: usize = 23;

@@ -1,9 +1,9 @@
 //! The static library behind safe functions. All the unsafe code of this crate
-//! is here: four calls. A slice is passed as its pointer and its length; an
+//! is here: six calls. A slice is passed as its pointer and its length; an
 //! empty one may have any pointer. Slices that are borrowed as these are cannot
 //! overlap where one of them is written to.
 
-use crate::sys::{self, Comparing, Normalising, Reading, Writing};
+use crate::sys::{self, Comparing, MeasureReading, Normalising, Reading, Writing};
 
 /// Reads a message into a table.
 pub fn read(message: &[u8], table: &mut [u64]) -> Reading {
@@ -37,4 +37,19 @@ pub fn compare(left: &[u64], right: &[u64], list: &mut [u64]) -> Comparing {
     // All slices live through the call, and the list is borrowed for it alone.
     // The two tables are only looked at, and may be the same one.
     unsafe { sys::msdtp_compare(one, one_words, other, other_words, to, words) }
+}
+
+/// Reads a message that is a measure sheet into a table.
+pub fn measure_read(message: &[u8], table: &mut [u64]) -> MeasureReading {
+    let (words, rows) = (table.len(), table.as_mut_ptr());
+    // Both slices live through the call, and the table is borrowed for it alone.
+    unsafe { sys::msdtp_measure_read(message.as_ptr(), message.len(), rows, words) }
+}
+
+/// Writes a measure sheet of chest, waist and sleeve into an output.
+pub fn measure_write(order: i64, unit: u64, figures: [u64; 3], output: &mut [u8]) -> Writing {
+    let [chest, waist, sleeve] = figures;
+    let (bytes, to) = (output.len(), output.as_mut_ptr());
+    // The output lives through the call, and is borrowed for it alone.
+    unsafe { sys::msdtp_measure_write(order, unit, chest, waist, sleeve, to, bytes) }
 }

@@ -3,8 +3,10 @@
 //!
 //! [`read`](crate::read) is refused with 1 to 11, [`write`](crate::write) with
 //! 12 to 15, [`normalise`](crate::normalise) with 1 to 11, 14 and 15, and
-//! [`compare`](crate::compare) with 12 and 16. What each says in plain words is
-//! told by [`Refused::meaning`](crate::Refused::meaning).
+//! [`compare`](crate::compare) with 12 and 16. For measure sheets,
+//! [`measure_read`](crate::measure_read) is refused with 1 to 11 and 20 to 22, and
+//! [`measure_write`](crate::measure_write) with 15 and 22. What each says in plain
+//! words is told by [`Refused::meaning`](crate::Refused::meaning).
 //!
 //! ```
 //! use msdtp::{numbers, read};
@@ -63,3 +65,11 @@ pub const NORMAL_LONG: u64 = 14;
 pub const OUTPUT_SHORT: u64 = 15;
 /// The lent list is too short.
 pub const LIST_SHORT: u64 = 16;
+/// The message is no measure sheet, or, where [`sys`](crate::sys) is to write one,
+/// its unit is neither of the two.
+pub const NOT_A_SHEET: u64 = 20;
+/// A figure of the measure sheet is EMPTY: stop and ask.
+pub const FIGURE_EMPTY: u64 = 21;
+/// A figure of the measure sheet is not from 1 to
+/// [`FIGURE_MOST`](crate::FIGURE_MOST).
+pub const FIGURE_RANGE: u64 = 22;

@@ -3,6 +3,7 @@
 use crate::library;
 use crate::numbers::{ACCEPTED, TABLE_SHORT, TOO_LONG};
 use crate::refused::Refused;
+use crate::sys::Writing;
 
 /// What an accepted reading answers.
 #[derive(Clone, Copy, Debug, PartialEq, Eq)]
@@ -216,7 +217,11 @@ pub fn read(message: &[u8], table: &mut [u64]) -> Result<Read, Refused> {
 /// # Ok::<(), msdtp::Refused>(())
 /// ```
 pub fn write(table: &[u64], output: &mut [u8]) -> Result<usize, Refused> {
-    let answer = library::write(table, output);
+    written(library::write(table, output))
+}
+
+/// The length that was written, or the refusal with the bytes needed.
+pub(crate) fn written(answer: Writing) -> Result<usize, Refused> {
     let length = answer.length as usize;
     match answer.number {
         ACCEPTED => Ok(length),

@@ -21,8 +21,9 @@ use std::fmt::{Display, Formatter, Result};
 #[derive(Clone, Copy, Debug, PartialEq, Eq)]
 #[non_exhaustive]
 pub struct Refused {
-    /// From 1 to 16, by name in [`numbers`](crate::numbers): reading gives 1 to
-    /// 11, writing 12 to 15, comparing 12 and 16.
+    /// From 1 to 16 or from 20 to 22, by name in [`numbers`](crate::numbers):
+    /// reading gives 1 to 11, writing 12 to 15, comparing 12 and 16, reading a
+    /// measure sheet 1 to 11 and 20 to 22, writing one 15 and 22.
     pub number: u64,
     /// The offset of the faulty object's type-byte with 2 to 9, otherwise 0.
     pub place: usize,
@@ -31,7 +32,8 @@ pub struct Refused {
     /// otherwise 0.
     pub needed: usize,
     /// The table words that hold the reading, if normalising is refused with 14
-    /// or 15; otherwise 0.
+    /// or 15; otherwise 0. With 20 to 22 the table holds the reading too, and its
+    /// header tells how many words that are.
     pub words: usize,
     /// With 2 and 3, how many bytes the faulty object needs past the end that it
     /// passes: with 2 that of the message, with 3 that of the enclosing object.
@@ -80,6 +82,9 @@ impl Refused {
             14 => "the normal form would be longer than 65,536 bytes",
             15 => "the output that was lent is too short",
             16 => "the list that was lent is too short",
+            20 => "what was given is no measure sheet",
+            21 => "a figure of the sheet is EMPTY: stop and ask",
+            22 => "a figure of the sheet is not from 1 to 20,000",
             _ => "no number of the list",
         }
     }

@@ -60,6 +60,44 @@ pub struct Comparing {
     pub entries: u64,
 }
 
+/// The answer of reading a measure sheet: 0 or a refusal's number, reading's place,
+/// words and bytes missing; then the sheet, which is all 0 with any number but 0.
+#[derive(Clone, Copy, Debug, PartialEq, Eq)]
+#[repr(C)]
+pub struct MeasureReading {
+    /// 0, or the refusal's number.
+    pub number: u64,
+    /// The refusal's place in the message.
+    pub place: u64,
+    /// The words used, with 11 those needed, and 0 with 20 to 22.
+    pub words: u64,
+    /// The bytes missing with 2 and 3, otherwise 0. What is counted is told at
+    /// [`Refused::missing`](crate::Refused::missing).
+    pub missing: u64,
+    /// The order number.
+    pub order: i64,
+    /// [`TENTHS_CM`] or [`EIGHTHS_INCH`].
+    pub unit: u64,
+    /// The chest in that unit.
+    pub chest: u64,
+    /// The waist in that unit.
+    pub waist: u64,
+    /// The sleeve in that unit.
+    pub sleeve: u64,
+    /// The chest in micrometres.
+    pub chest_um: u64,
+    /// The waist in micrometres.
+    pub waist_um: u64,
+    /// The sleeve in micrometres.
+    pub sleeve_um: u64,
+}
+
+/// The unit of a measure sheet whose figures are tenths of a centimetre.
+pub const TENTHS_CM: u64 = 0;
+
+/// The unit of a measure sheet whose figures are eighths of an inch.
+pub const EIGHTHS_INCH: u64 = 1;
+
 extern "C" {
     /// Reads a message into a lent table.
     pub fn msdtp_read(
@@ -97,4 +135,23 @@ extern "C" {
         list: *mut u64,
         list_len: usize,
     ) -> Comparing;
+
+    /// Reads a message that is a measure sheet into a lent table.
+    pub fn msdtp_measure_read(
+        message: *const u8,
+        message_len: usize,
+        table: *mut u64,
+        table_len: usize,
+    ) -> MeasureReading;
+
+    /// Writes a measure sheet into a lent output.
+    pub fn msdtp_measure_write(
+        order: i64,
+        unit: u64,
+        chest: u64,
+        waist: u64,
+        sleeve: u64,
+        output: *mut u8,
+        output_len: usize,
+    ) -> Writing;
 }

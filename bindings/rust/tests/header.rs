@@ -1,8 +1,8 @@
 //! The crate and the C header agree: constants, version, words, the fields of
 //! the answers, the functions.
 
-use msdtp::sys::{Comparing, Normalising, Reading, Writing};
-use msdtp::{kinds, numbers, Refused};
+use msdtp::sys::{Comparing, MeasureReading, Normalising, Reading, Writing};
+use msdtp::{kinds, numbers, sys, Refused};
 use std::collections::BTreeMap;
 use std::mem::{offset_of, size_of};
 
@@ -33,15 +33,17 @@ fn constants() -> BTreeMap<&'static str, String> {
     let sizes = SIZES.map(|(name, value)| (name, value.to_string()));
     let numbers = NUMBERS.map(|(name, value)| (name, value.to_string()));
     let kinds = KINDS.map(|(name, value)| (name, value.to_string()));
+    let sheets = SHEETS.map(|(name, value)| (name, value.to_string()));
     words
         .into_iter()
         .chain(sizes)
         .chain(numbers)
         .chain(kinds)
+        .chain(sheets)
         .collect()
 }
 
-const SIZES: [(&str, usize); 10] = [
+const SIZES: [(&str, usize); 12] = [
     ("BYTE_LIMIT", msdtp::BYTE_LIMIT),
     ("ROW_LIMIT", msdtp::ROW_LIMIT),
     ("WORD_LIMIT", msdtp::WORD_LIMIT),
@@ -52,9 +54,17 @@ const SIZES: [(&str, usize); 10] = [
     ("TABLE_WORDS", msdtp::TABLE_WORDS),
     ("OUTPUT_BYTES", msdtp::OUTPUT_BYTES),
     ("LIST_WORDS", msdtp::LIST_WORDS),
+    ("SHEET_WORDS", msdtp::SHEET_WORDS),
+    ("SHEET_BYTES", msdtp::SHEET_BYTES),
 ];
 
-const NUMBERS: [(&str, u64); 17] = [
+const SHEETS: [(&str, u64); 3] = [
+    ("TENTHS_CM", sys::TENTHS_CM),
+    ("EIGHTHS_INCH", sys::EIGHTHS_INCH),
+    ("FIGURE_MOST", msdtp::FIGURE_MOST),
+];
+
+const NUMBERS: [(&str, u64); 20] = [
     ("ACCEPTED", numbers::ACCEPTED),
     ("TOO_LONG", numbers::TOO_LONG),
     ("PAST_INPUT", numbers::PAST_INPUT),
@@ -72,6 +82,9 @@ const NUMBERS: [(&str, u64); 17] = [
     ("NORMAL_LONG", numbers::NORMAL_LONG),
     ("OUTPUT_SHORT", numbers::OUTPUT_SHORT),
     ("LIST_SHORT", numbers::LIST_SHORT),
+    ("NOT_A_SHEET", numbers::NOT_A_SHEET),
+    ("FIGURE_EMPTY", numbers::FIGURE_EMPTY),
+    ("FIGURE_RANGE", numbers::FIGURE_RANGE),
 ];
 
 const KINDS: [(&str, u64); 9] = [
@@ -114,21 +127,30 @@ fn refused(number: u64) -> Refused {
 #[test]
 fn the_words_are_those_of_the_header() {
     let header = header();
-    for number in 1..=16 {
+    for number in (1..=16).chain(20..=22) {
         let expected = [refused(number).meaning()];
         assert_eq!(words(&header, &format!("case {number}")), expected);
     }
     assert_eq!(words(&header, "case 0"), ["accepted"]);
-    assert_eq!(words(&header, "default"), [refused(17).meaning()]);
-    assert!(words(&header, "case 17").is_empty());
+    for number in [17, 18, 19, 23] {
+        assert_eq!(words(&header, "default"), [refused(number).meaning()]);
+        assert!(words(&header, &format!("case {number}")).is_empty());
+    }
 }
 
-/// The fields of a structure of the header, by name. All have eight bytes.
-fn fields<'h>(header: &'h str, name: &str) -> Vec<&'h str> {
-    let before = format!("struct {name} {{\n    uint64_t ");
+/// The fields of a structure of the header, by name, those that are signed with
+/// their type before it. All have eight bytes.
+fn fields(header: &str, name: &str) -> Vec<String> {
+    let before = format!("struct {name} {{\n    ");
     let (_, rest) = header.split_once(&before).expect(name);
-    let (fields, _) = rest.split_once(";\n};").expect(name);
-    fields.split(", ").collect()
+    let (lines, _) = rest.split_once(";\n};").expect(name);
+    let of_line = |line: &str| -> Vec<String> {
+        match line.split_once(' ').expect("a type") {
+            ("uint64_t", names) => names.split(", ").map(String::from).collect(),
+            _ => vec![line.to_string()],
+        }
+    };
+    lines.split(";\n    ").flat_map(of_line).collect()
 }
 
 /// The fields of a structure of `sys` stand one after another in this order, and
@@ -165,6 +187,12 @@ fn the_fields_are_those_of_the_header() {
         fields(&header, "msdtp_comparing"),
         fields_of!(Comparing: number, entries)
     );
+    let mut sheet = fields_of!(
+        MeasureReading: number, place, words, missing, order, unit, chest, waist, sleeve,
+        chest_um, waist_um, sleeve_um
+    );
+    sheet[4] = "int64_t order";
+    assert_eq!(fields(&header, "msdtp_measure_reading"), sheet);
 }
 
 /// The functions that the header declares, in its order. `msdtp_meaning` is not

@@ -1,9 +1,10 @@
-//! Every number from 0 to 16, reached through the crate.
+//! Every number, from 0 to 16 and from 20 to 22, reached through the crate.
 
 mod tables;
 
-use msdtp::{compare, normalise, read, rows, write};
-use msdtp::{Normalised, Read, Refused, Row, OUTPUT_BYTES, TABLE_WORDS};
+use msdtp::{compare, measure_read, measure_write, normalise, read, rows, write};
+use msdtp::{Normalised, Read, Refused, Row, Sheet, Unit};
+use msdtp::{OUTPUT_BYTES, SHEET_BYTES, TABLE_WORDS};
 use tables::{table_of_bits, table_of_boxes};
 
 /// Contents of fewer than 128 bytes inside so many STRUCs.
@@ -111,6 +112,46 @@ fn comparing_gives_12_and_16() {
     }
 }
 
+/// The sheet of order 0 with figures of one byte each.
+fn small_sheet(chest: u8) -> [u8; 9] {
+    [0xC3, 0x07, 0x8C, 0x81, 0x80, 0xF8, chest, 0x82, 0x83]
+}
+
+#[test]
+fn measure_sheets_give_20_to_22() {
+    let cases = [(0xFC, 20), (0xFE, 21), (0x80, 22)];
+    for (chest, number) in cases {
+        let (mut table, mut reading) = ([7; 40], [7; 40]);
+        let refused = measure_read(&small_sheet(chest), &mut table).unwrap_err();
+        assert_eq!((refused.number, refused.needed), (number, 0));
+        assert_eq!((refused.place, refused.words, refused.missing), (0, 0, 0));
+        assert!(read(&small_sheet(chest), &mut reading).is_ok());
+        assert_eq!(table, reading);
+    }
+    let sheet = Sheet {
+        order: 0,
+        unit: Unit::TenthsOfCentimetre,
+        chest: 1,
+        waist: 2,
+        sleeve: 3,
+    };
+    let none = Sheet { chest: 0, ..sheet };
+    for (sheet, number, needed) in [(none, 22, 0), (sheet, 15, 9)] {
+        let mut output = [7; 8];
+        let refused = measure_write(&sheet, &mut output).unwrap_err();
+        assert_eq!((refused.number, refused.needed), (number, needed));
+        assert_eq!((refused.place, refused.words, refused.missing), (0, 0, 0));
+        assert_eq!(output, [7; 8]);
+    }
+    let mut output = [7; SHEET_BYTES];
+    assert_eq!(measure_write(&sheet, &mut output), Ok(9));
+    assert_eq!(output[..9], small_sheet(0x81));
+    assert_eq!(
+        measure_read(&output[..9], &mut [0; 28]).map(|it| it.sheet),
+        Ok(sheet)
+    );
+}
+
 #[test]
 fn normalising_gives_14_and_15_and_the_reading() {
     let mut table = vec![0; TABLE_WORDS];
@@ -165,8 +206,11 @@ fn empty_slices() {
     assert_eq!(write(&[], &mut []).unwrap_err().number, 12);
     assert_eq!(rows(&[]).next(), None);
     assert_eq!(compare(&[], &[], &mut []).unwrap_err().number, 12);
+    let refused = measure_read(&[], &mut []).unwrap_err();
+    assert_eq!((refused.number, refused.needed), (11, 4));
 
     let mut table = [7; 4];
+    assert_eq!(measure_read(&[], &mut table).unwrap_err().number, 20);
     let nothing = Normalised {
         words: 4,
         length: 0,
@@ -204,5 +248,29 @@ fn refusals_are_errors_in_words() {
     assert_eq!(
         compare(&table, &[], &mut []).unwrap_err().to_string(),
         "refused 12: what was given is no table of items"
+    );
+}
+
+#[test]
+fn refusals_of_sheets_in_words() {
+    let told = |message: &[u8], words: usize| {
+        let refused = measure_read(message, &mut vec![0; words]);
+        refused.unwrap_err().to_string()
+    };
+    assert_eq!(
+        told(&[], 4),
+        "refused 20: what was given is no measure sheet"
+    );
+    assert_eq!(
+        told(&small_sheet(0xFE), 28),
+        "refused 21: a figure of the sheet is EMPTY: stop and ask"
+    );
+    assert_eq!(
+        told(&small_sheet(0x80), 28),
+        "refused 22: a figure of the sheet is not from 1 to 20,000"
+    );
+    assert_eq!(
+        told(&small_sheet(0x81)[..3], 28),
+        "refused 2 at 0: the message ends in the middle of an object; bytes missing: 6"
     );
 }

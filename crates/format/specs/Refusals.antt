@@ -66,6 +66,18 @@ output-short = 15
 abbrev pub list-short : ℕ
 list-short = 16
 
+-- 20: "not such a sheet, a figure neither INT nor EMPTY included"; writing one, "another unit"
+abbrev pub not-a-sheet : ℕ
+not-a-sheet = 20
+
+-- 21: "a figure EMPTY"
+abbrev pub figure-empty : ℕ
+figure-empty = 21
+
+-- 22: "a figure out of range"
+abbrev pub figure-range : ℕ
+figure-range = 22
+
 abbrev pub byteLimit : ℕ
 byteLimit = 65536
 

@@ -5,7 +5,7 @@ ghost use Rattle.format.specs.Refusals as R;
 use super::limits::MOST_BYTES;
 
 // The numbers, each written here alone. 2 to 9 are faults of a message; the others are met before one is read, where it is laid out,
-// where a table is written, and where tables are compared.
+// where a table is written, where tables are compared, and where a measure sheet is read or written.
 pub const TOO_LONG: usize = 1;
 
 pub const PAST_INPUT: usize = 2;
@@ -37,6 +37,12 @@ pub const NORMAL_LONG: usize = 14;
 pub const OUTPUT_SHORT: usize = 15;
 
 pub const LIST_SHORT: usize = 16;
+
+pub const NOT_A_SHEET: usize = 20;
+
+pub const FIGURE_EMPTY: usize = 21;
+
+pub const FIGURE_RANGE: usize = 22;
 
 // The number; the offset of the faulty object's type-byte, from the start of what is being read; and with 2 and 3 the bytes that
 // are missing, otherwise 0.

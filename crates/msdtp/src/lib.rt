@@ -1,11 +1,14 @@
-// The public operations for C, as declared in include/msdtp.h. Each is the operation of the crate message or compare, with its
-// contract.
+// The public operations for C, as declared in include/msdtp.h. Each is the operation of the crate message, compare or measure, with
+// its contract.
 ghost use mathlib.Core.Path.{_≡_};
 ghost use Rattle.format.specs.Answers.{reading, writing, normalising};
 ghost use Rattle.message.specs.Told.{readTold, writeTold, normaliseTold};
 ghost use Rattle.compare.specs.Differences.{comparing};
 ghost use Rattle.compare.specs.Told.{compareTold};
+ghost use Rattle.measure.specs.Sheets.{measuring, measureWriting};
+ghost use Rattle.measure.specs.Told.{measureTold};
 use compare::Comparing;
+use measure::Measuring;
 use message::Normalising;
 use message::Reading;
 use message::Writing;
@@ -40,4 +43,25 @@ pub extern "C" fn msdtp_compare(left: &[u64], right: &[u64], list: &mut [u64]) -
     ensures { λ r. ⌜ compareTold r (now (list .exit)) ≡ comparing (now (left .entry)) (now (right .entry)) (now (list .entry)) ⌝ }
 {
     compare::compare(left, right, list)
+}
+
+#[no_mangle]
+pub extern "C" fn msdtp_measure_read(message: &[u8], table: &mut [u64]) -> Measuring
+    ensures { λ r. ⌜ measureTold r (now (table .exit)) ≡ measuring (now (message .entry)) (now (table .entry)) ⌝ }
+{
+    measure::read(message, table)
+}
+
+#[no_mangle]
+pub extern "C" fn msdtp_measure_write(
+    order: i64,
+    unit: u64,
+    chest: u64,
+    waist: u64,
+    sleeve: u64,
+    output: &mut [u8],
+) -> Writing
+    ensures { λ r. ⌜ writeTold r (now (output .exit)) ≡ measureWriting order unit chest waist sleeve (now (output .entry)) ⌝ }
+{
+    measure::write(order, unit, chest, waist, sleeve, output)
 }

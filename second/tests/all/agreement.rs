@@ -1,9 +1,9 @@
 //! What must hold of every message and every table, by the plain reading.
 
-use crate::lent;
 use crate::plain::items::{depth, Item};
 use crate::plain::messages::Refusal;
 use crate::plain::{forms, messages, tables};
+use crate::{lent, measuring};
 use second::{Normalising, Reading, Writing};
 
 const MOST_BYTES: usize = 65_536;
@@ -14,7 +14,9 @@ pub fn hex(bytes: &[u8]) -> String {
 
 /// Compares everything the program says of a message with the plain reading.
 pub fn of_message(message: &[u8]) {
-    match messages::items(message) {
+    let plain = messages::items(message);
+    measuring::of_reading(message, &plain);
+    match plain {
         Err(refusal) => refused(message, refusal),
         Ok(items) => accepted(message, &items),
     }

@@ -1,6 +1,6 @@
 //! Lent room that is filled beforehand, so that every change shows.
 
-use second::{Comparing, Normalising, Reading, Writing};
+use second::{Comparing, MeasureReading, Normalising, Reading, Writing};
 
 fn poison(at: usize) -> u64 {
     (at as u64 + 7).wrapping_mul(0xD6E8_FEB8_6659_FD93)
@@ -83,4 +83,38 @@ pub fn compare(left: &[u64], right: &[u64], lent: usize) -> (Comparing, Vec<u64>
     assert!(list[used..] == words(lent)[used..], "stray words");
     list.truncate(used);
     (comparing, list)
+}
+
+/// Reads a measure sheet with so many words lent. Answers the table that was read,
+/// by its own header, also where the sheet is refused; all other words must be as
+/// they were.
+pub fn measure_read(message: &[u8], lent: usize) -> (MeasureReading, Vec<u64>) {
+    let mut table = words(lent);
+    let answer = second::measure_read(message, &mut table);
+    let has_read = answer.number == 0 || answer.number >= 20;
+    let used = if has_read { table[2] + table[3] } else { 0 };
+    let used = used as usize;
+    assert!(table[used..] == words(lent)[used..], "stray words");
+    table.truncate(used);
+    (answer, table)
+}
+
+/// Writes a measure sheet of an order number, a unit and three figures with so many
+/// bytes lent. Answers the bytes written; all others must be as they were.
+pub fn measure_write(
+    order: i64,
+    unit: u64,
+    [chest, waist, sleeve]: [u64; 3],
+    lent: usize,
+) -> (Writing, Vec<u8>) {
+    let mut output = bytes(lent);
+    let writing = second::measure_write(order, unit, chest, waist, sleeve, &mut output);
+    let used = if writing.number == 0 {
+        writing.length as usize
+    } else {
+        0
+    };
+    assert!(output[used..] == bytes(lent)[used..], "stray bytes");
+    output.truncate(used);
+    (writing, output)
 }

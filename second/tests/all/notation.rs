@@ -62,6 +62,7 @@ fn byte(token: &str) -> u64 {
 fn word(token: &str) -> u64 {
     let word = match token.strip_prefix("0x") {
         Some(digits) => u64::from_str_radix(digits, 16),
+        None if token.starts_with('-') => token.parse().map(|value: i64| value as u64),
         None => token.parse(),
     };
     word.unwrap_or_else(|_| panic!("{token} is no word"))
@@ -102,4 +103,5 @@ fn runs_are_laid_out() {
     let group = [0xF1, 2, 3, 2, 3];
     assert_eq!(run, [&[0x80; 2], &group[..], &group[..], &[0xFF]].concat());
     assert_eq!(expanded("10 0x10*2", word), [10, 16, 16]);
+    assert_eq!(expanded("-1", word), [u64::MAX]);
 }

@@ -4,7 +4,7 @@ use second::command::answer;
 use std::io::Write;
 use std::process::{Command, Stdio};
 
-const ANSWERS: [(&str, &str); 25] = [
+const ANSWERS: [(&str, &str); 31] = [
     (
         "read C203818283 20",
         "number 0 place 0 words 16 missing 0 stray 0 table 4 1 16 0 7 3 3 1 0 1 1 0 2 1 0 3",
@@ -82,6 +82,34 @@ const ANSWERS: [(&str, &str); 25] = [
     ("compare 4 0 0 4 0 /", "number 12 entries 0 stray 0 list"),
     ("compare 4 /", "number 12 entries 0 stray 0 list"),
     (
+        "measure_read C3078C8187F9858687 30",
+        "number 0 place 0 words 28 missing 0 order 7 unit 1 figures 5 6 7 \
+         micrometres 15875 19050 22225 stray 0 \
+         table 8 1 28 0 8 7 7 1 0 12 1 0 1 1 0 7 6 0 1 1 0 5 1 0 6 1 0 7",
+    ),
+    (
+        "measure_read FE 9",
+        "number 20 place 0 words 0 missing 0 order 0 unit 0 figures 0 0 0 \
+         micrometres 0 0 0 stray 0 table 1 1 7 0 5 0 0",
+    ),
+    (
+        "measure_read C3078C81 30",
+        "number 2 place 0 words 0 missing 5 order 0 unit 0 figures 0 0 0 \
+         micrometres 0 0 0 stray 0 table",
+    ),
+    (
+        "measure_write 12 -1 0 5 6 7",
+        "number 0 length 10 stray 0 output C3088C81E1FFF8858687",
+    ),
+    (
+        "measure_write 9 -1 0 5 6 7",
+        "number 15 length 10 stray 0 output -",
+    ),
+    (
+        "measure_write 12 -1 0 5 6 20001",
+        "number 22 length 0 stray 0 output -",
+    ),
+    (
         "list C602C845",
         r"text accepted 1 items 1 rows\n0 STRING 2 72 69\n",
     ),
@@ -124,6 +152,13 @@ fn what_is_no_request_is_answered_with_help() {
         "compare 4 0 0 4 0 / 0 0 4 0 / 0 0 4 0",
         "compare 4 0 0 4 0/0 0 4 0",
         "compare 4 x / 0 0 4 0",
+        "measure_read C2",
+        "measure_read C2 4 4",
+        "measure_write 9 7 0 5 6",
+        "measure_write 9 7 0 5 6 7 8",
+        "measure_write 9 9223372036854775808 0 5 6 7",
+        "measure_write 9 7 -1 5 6 7",
+        "measure_write 9 7 0 5 6 EMPTY",
         "list",
         "list C2 C2",
     ];

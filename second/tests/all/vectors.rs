@@ -3,35 +3,42 @@
 use crate::notation::{blocks, Block};
 use crate::plain::differences::{differences, Entry};
 use crate::plain::{forms, messages, tables};
-use crate::{item_notation, lent};
+use crate::{item_notation, lent, sheet_vectors};
 use second::{Comparing, Normalising, Reading, Writing};
 use std::collections::BTreeSet;
 use std::path::Path;
 
-const AMPLE_WORDS: usize = 65_540;
-const AMPLE_BYTES: usize = 65_536;
+pub const AMPLE_WORDS: usize = 65_540;
+pub const AMPLE_BYTES: usize = 65_536;
 const AMPLE_LIST: usize = 32_768;
 
 /// All the vectors, and how many of them have each key.
-const ALL: usize = 2_104;
-const KEYS: [(&str, usize); 17] = [
+const ALL: usize = 2_772;
+const KEYS: [(&str, usize); 24] = [
     ("message", 1_452),
-    ("lent", 61),
+    ("lent", 84),
     ("read", 1_452),
     ("items", 472),
-    ("table", 584),
-    ("room", 135),
+    ("table", 639),
+    ("room", 160),
     ("normalise", 44),
     ("normal", 577),
     ("list", 45),
     ("write", 347),
-    ("bytes", 68),
+    ("bytes", 130),
     ("compare", 305),
     ("left", 305),
     ("right", 305),
     ("left_items", 236),
     ("right_items", 236),
     ("entries", 218),
+    ("sheet", 542),
+    ("measure_read", 542),
+    ("measure_write", 126),
+    ("order", 275),
+    ("unit", 275),
+    ("figures", 275),
+    ("micrometres", 149),
 ];
 
 #[test]
@@ -44,7 +51,11 @@ fn every_vector_holds() {
     }
     let mut numbers = BTreeSet::new();
     for (name, block) in &vectors {
-        if block.value("compare").is_some() {
+        if block.value("measure_read").is_some() {
+            numbers.insert(sheet_vectors::run_reading(name, block));
+        } else if block.value("measure_write").is_some() {
+            numbers.insert(sheet_vectors::run_writing(name, block));
+        } else if block.value("compare").is_some() {
             run_comparing(name, block, &mut numbers);
         } else if block.value("write").is_some() {
             run_writing(name, block, &mut numbers);
@@ -53,7 +64,7 @@ fn every_vector_holds() {
         }
     }
     assert!(
-        numbers.iter().copied().eq(0..=16),
+        numbers.iter().copied().eq((0..=16).chain(20..=22)),
         "numbers met: {numbers:?}"
     );
 }
@@ -73,7 +84,7 @@ fn of_file(path: &Path) -> Vec<(String, Block)> {
     blocks(&text).into_iter().map(named).collect()
 }
 
-fn lent_of(block: &Block, key: &str, ample: usize) -> usize {
+pub fn lent_of(block: &Block, key: &str, ample: usize) -> usize {
     let lent = block
         .value(key)
         .map(|value| value.parse().expect("a number"));

@@ -2,7 +2,7 @@
 //! this package is here.
 
 use msdtp::sys;
-use second::{Comparing, Normalising, Reading, Writing};
+use second::{Comparing, MeasureReading, Normalising, Reading, Writing};
 
 /// How an empty slice is passed: as null, or by the pointer that it has.
 #[derive(Clone, Copy, Debug, PartialEq, Eq)]
@@ -90,5 +90,47 @@ pub fn compare(left: &[u64], right: &[u64], list: &mut [u64], empty: Empty) -> C
     Comparing {
         number: answer.number,
         entries: answer.entries,
+    }
+}
+
+/// Reads a measure sheet with a lent table.
+pub fn measure_read(message: &[u8], table: &mut [u64], empty: Empty) -> MeasureReading {
+    let (words, bytes) = (table.len(), message.len());
+    let from = pointer(message, empty);
+    let to = pointer_mut(table, empty);
+    // Both slices live through the call, and the second is borrowed for it alone.
+    let answer = unsafe { sys::msdtp_measure_read(from, bytes, to, words) };
+    MeasureReading {
+        number: answer.number,
+        place: answer.place,
+        words: answer.words,
+        missing: answer.missing,
+        order: answer.order,
+        unit: answer.unit,
+        chest: answer.chest,
+        waist: answer.waist,
+        sleeve: answer.sleeve,
+        chest_um: answer.chest_um,
+        waist_um: answer.waist_um,
+        sleeve_um: answer.sleeve_um,
+    }
+}
+
+/// Writes a measure sheet into a lent output: its order number, its unit, and chest,
+/// waist and sleeve.
+pub fn measure_write(
+    order: i64,
+    unit: u64,
+    [chest, waist, sleeve]: [u64; 3],
+    output: &mut [u8],
+    empty: Empty,
+) -> Writing {
+    let bytes = output.len();
+    let to = pointer_mut(output, empty);
+    // The slice lives through the call, and is borrowed for it alone.
+    let answer = unsafe { sys::msdtp_measure_write(order, unit, chest, waist, sleeve, to, bytes) };
+    Writing {
+        number: answer.number,
+        length: answer.length,
     }
 }

@@ -5,4 +5,5 @@ pub mod differences;
 pub mod forms;
 pub mod items;
 pub mod messages;
+pub mod sheets;
 pub mod tables;

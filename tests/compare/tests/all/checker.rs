@@ -2,6 +2,7 @@
 //! answer, and all that is lent with a margin around it.
 
 use crate::lent::{Pair, Pattern};
+use crate::measuring::Sheet;
 use crate::told;
 use compare::library::{self, Empty};
 use std::fmt::Debug;
@@ -205,6 +206,44 @@ impl Checker {
                 let lent = format!("{words} words and {bytes} bytes lent");
                 let head = format!("\nnormalising, {lent}, empty slices {empty:?}");
                 format!("{head}\nmessage {}\n", told::bytes(message))
+            });
+        }
+        answer
+    }
+
+    /// Reads a message as a measure sheet.
+    pub fn measuring(&mut self, message: &[u8], room: usize) -> second::MeasureReading {
+        let expected = second::measure_read(message, self.table.second.room(room));
+        give(&mut self.message, message);
+        let mut answer = expected;
+        for &empty in ways(message.is_empty() || room == 0) {
+            let table = self.table.library.room(room);
+            answer = library::measure_read(self.message.library.lent(), table, empty);
+            self.compare(&answer, &expected, || {
+                let head = format!("\nmeasuring, {room} words lent, empty slices {empty:?}");
+                format!("{head}\nsheet {}\n", told::bytes(message))
+            });
+        }
+        answer
+    }
+
+    /// Writes a measure sheet. No room asks the length.
+    pub fn measure_writing(&mut self, sheet: &Sheet, room: usize) -> second::Writing {
+        let Sheet {
+            order,
+            unit,
+            figures,
+        } = *sheet;
+        let [chest, waist, sleeve] = figures;
+        let output = self.output.second.room(room);
+        let expected = second::measure_write(order, unit, chest, waist, sleeve, output);
+        let mut answer = expected;
+        for &empty in ways(room == 0) {
+            let output = self.output.library.room(room);
+            answer = library::measure_write(order, unit, figures, output, empty);
+            self.compare(&answer, &expected, || {
+                let head = format!("\nwriting, {room} bytes lent, empty slices {empty:?}");
+                format!("{head}\n{sheet:?}\n")
             });
         }
         answer

@@ -22,6 +22,8 @@ mod vector_files;
 // What is shared with the program that counts instructions.
 #[path = "../../src/bin/linear/hostile_pairs.rs"]
 mod hostile_pairs;
+#[path = "../../src/bin/linear/hostile_sheets.rs"]
+mod hostile_sheets;
 #[path = "../../src/bin/linear/hostile_tables.rs"]
 mod hostile_tables;
 
@@ -43,6 +45,8 @@ mod objects_within;
 #[allow(dead_code)]
 #[path = "../../../../second/tests/all/plain/mod.rs"]
 mod plain;
+#[path = "../../../../second/tests/all/sheets.rs"]
+mod sheets;
 
 mod reading;
 mod reading_hostile;
@@ -61,6 +65,12 @@ mod comparing_changed;
 mod comparing_limits;
 mod comparing_pairs;
 
+mod measuring;
+mod measuring_changed;
+mod measuring_limits;
+mod measuring_sheets;
+mod measuring_written;
+
 mod cuts;
 mod cuts_of_objects;
 mod format_page;
@@ -73,6 +83,7 @@ mod missing_sizes;
 mod one_call;
 mod one_call_changed;
 mod refusals_page;
+mod sheets_page;
 mod stretches;
 mod strings;
 mod strings_limits;

@@ -111,7 +111,7 @@ fn one_call(checker: &mut Checker, table: &[u64], others: usize, met: &mut Met) 
 /// for each that has a length, and otherwise what the vector says.
 #[test]
 fn of_vectors() {
-    let vectors = with_key("table", 584);
+    let vectors = with_key("table", 639);
     let mut checker = Checker::new();
     let mut met = Met::default();
     in_small_stack(&mut checker, |checker| {

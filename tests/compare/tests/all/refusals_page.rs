@@ -13,17 +13,18 @@ use crate::told;
 use compare::library::{self, Empty};
 use std::collections::{BTreeMap, BTreeSet};
 
-/// The last number of the operations that are held to the page here.
-const LAST: u64 = 16;
+/// The last number of the operations that are held to the page here. Those of measure
+/// sheets are held to it in `sheets_page`.
+pub const LAST: u64 = 16;
 
 /// A row of the page: the number, which is 0 for EMPTY, its name, and the cells
 /// that say what is wrong, what is smallest, and the answer.
-struct Line {
-    name: String,
-    number: u64,
+pub struct Line {
+    pub name: String,
+    pub number: u64,
     wrong: String,
-    smallest: String,
-    answer: String,
+    pub smallest: String,
+    pub answer: String,
 }
 
 /// The rows of the page's tables, each with the heads of its table.
@@ -31,11 +32,15 @@ fn tables() -> Vec<(Vec<String>, Vec<String>)> {
     pages::tables("REFUSALS.md")
 }
 
-/// The rows of the numbers of these operations, in the page's order.
-fn page() -> Vec<Line> {
+/// The rows of all numbers, in the page's order.
+pub fn lines() -> impl Iterator<Item = Line> {
     let rows = tables().into_iter().filter(|(heads, _)| heads[0] == "No.");
-    let lines = rows.map(|(heads, row)| line(&heads, &row));
-    lines.filter(|line| line.number <= LAST).collect()
+    rows.map(|(heads, row)| line(&heads, &row))
+}
+
+/// The rows of the numbers of these operations.
+fn page() -> Vec<Line> {
+    lines().filter(|line| line.number <= LAST).collect()
 }
 
 /// A row under the heads of its table.
@@ -59,7 +64,7 @@ fn line(heads: &[String], row: &[String]) -> Line {
 }
 
 /// What a cell in words stands for.
-enum Case {
+pub enum Case {
     /// A message, the table words lent and the words that reading then tells.
     Reading(Vec<u8>, usize, u64),
     /// A table, the output bytes lent and the length that writing then tells.
@@ -106,7 +111,7 @@ fn by_hand(number: u64) -> Option<(&'static str, Case)> {
 
 /// The case of a row of the page. Words other than those that a case was made
 /// for have none.
-fn case(line: &Line) -> Case {
+pub fn case(line: &Line) -> Case {
     if let Some(message) = message(&line.smallest) {
         return Case::Reading(message, AMPLE_WORDS, 0);
     }
@@ -270,14 +275,14 @@ fn spans(cell: &str) -> BTreeSet<u64> {
 }
 
 /// Numbers by the operation that gets them.
-type Numbers = BTreeMap<String, BTreeSet<u64>>;
+pub type Numbers = BTreeMap<String, BTreeSet<u64>>;
 
-/// The page's table of operations, up to the last number.
-fn operations() -> Numbers {
+/// The page's table of operations: of those of measure sheets, or of all others.
+pub fn operations(of_sheets: bool) -> Numbers {
     let rows = tables().into_iter();
     let rows = rows.filter(|(heads, _)| heads[0] == "Operation");
-    let numbers = |cell: &str| spans(cell).range(..=LAST).copied().collect();
-    rows.map(|(_, row)| (row[0].clone(), numbers(&row[1])))
+    rows.filter(|(_, row)| row[0].ends_with(" a sheet") == of_sheets)
+        .map(|(_, row)| (row[0].clone(), spans(&row[1])))
         .collect()
 }
 
@@ -340,7 +345,7 @@ fn each_operation_gets_its_numbers() {
     }
     message_gets(&mut checker, &mut got, &[0x81; 2_666], AMPLE_WORDS);
     checker.must_agree();
-    assert_eq!(got, operations(), "the numbers of each operation");
+    assert_eq!(got, operations(false), "the numbers of each operation");
 }
 
 /// The limits of sheetlist that the rows of 1 and 11 tell.

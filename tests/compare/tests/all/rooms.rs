@@ -13,7 +13,7 @@ pub const AMPLE_LIST: usize = 32_768;
 pub const MORE: usize = 40;
 
 /// The rooms to try. Nothing is needed where a refusal is due in any room.
-fn rooms(needed: usize) -> Vec<usize> {
+pub fn rooms(needed: usize) -> Vec<usize> {
     match needed {
         0 => vec![MORE, 0],
         _ => vec![needed + MORE, 0, needed, needed - 1],

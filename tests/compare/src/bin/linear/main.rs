@@ -1,11 +1,13 @@
 //! Makes one call of the library for each operation and each hostile message,
-//! table or pair of tables, in two sizes, for a tool that counts the
-//! instructions of `counted_call`. To ask is to write with an empty output, and
-//! to count is to compare with an empty list. Prints a line for each call: the
+//! table, pair of tables or measure sheet, in two sizes, for a tool that counts
+//! the instructions of `counted_call`. To ask is to write with an empty output,
+//! to count is to compare with an empty list, and to measure is to read a measure
+//! sheet. Prints a line for each call: the
 //! operation, the shape, the size, and the bytes and words lent, used or written.
 
 #[allow(dead_code)]
 mod hostile_pairs;
+mod hostile_sheets;
 mod hostile_tables;
 
 // What is shared with the tests.
@@ -24,7 +26,7 @@ mod plain;
 #[path = "../../../tests/all/tables.rs"]
 mod tables;
 
-use compare::library::{compare, normalise, read, write, Empty};
+use compare::library::{compare, measure_read, normalise, read, write, Empty};
 use hostile_messages::Size;
 use std::hint::black_box;
 
@@ -76,6 +78,16 @@ fn count_call(lent: &mut Lent) -> u64 {
     0
 }
 
+/// What is read and is no sheet fills the table too, and the answer does not tell its
+/// words; the table does.
+fn measure_call(lent: &mut Lent) -> u64 {
+    let answer = measure_read(&lent.message, &mut lent.table, EMPTY);
+    match answer.number {
+        20..=22 => lent.table[2] + lent.table[3],
+        _ => answer.words,
+    }
+}
+
 /// One call, by the name that the tool is given.
 #[no_mangle]
 #[inline(never)]
@@ -106,6 +118,7 @@ fn main() {
         of_messages(size, &mut lent);
         of_tables(size, &mut lent);
         of_pairs(size, &mut lent);
+        of_sheets(size, &mut lent);
     }
 }
 
@@ -138,4 +151,12 @@ fn of_pairs(size: Size, lent: &mut Lent) {
     }
     lent.given.clear();
     lent.other.clear();
+}
+
+fn of_sheets(size: Size, lent: &mut Lent) {
+    for hostile in hostile_sheets::sheets(size) {
+        lent.message = hostile.message;
+        line("measure", measure_call, hostile.name, size, lent);
+    }
+    lent.message.clear();
 }

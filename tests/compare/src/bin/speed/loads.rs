@@ -10,6 +10,16 @@ pub enum Given {
     Message(Vec<u8>),
     /// Two tables to compare.
     Tables(Vec<u64>, Vec<u64>),
+    /// A measure sheet to write, and the bytes lent to it.
+    Sheet(Sheet, usize),
+}
+
+/// What a measure sheet is to say: its figures are chest, waist and sleeve.
+#[derive(Clone, Copy, Default)]
+pub struct Sheet {
+    pub order: i64,
+    pub unit: u64,
+    pub figures: [u64; 3],
 }
 
 pub fn sized(type_byte: u8, contents: &[u8]) -> Vec<u8> {
@@ -83,7 +93,7 @@ pub fn measure_sheet() -> Vec<u8> {
 }
 
 /// A message that lacks its last six bytes.
-fn cut_short(mut message: Vec<u8>) -> Vec<u8> {
+pub fn cut_short(mut message: Vec<u8>) -> Vec<u8> {
     message.truncate(message.len() - 6);
     message
 }
@@ -147,7 +157,7 @@ fn strings_and_bits() -> Vec<u8> {
     [string, bit_string(18)].concat()
 }
 
-fn load(name: &'static str, message: Vec<u8>) -> Load {
+pub fn load(name: &'static str, message: Vec<u8>) -> Load {
     let given = Given::Message(message);
     Load { name, given }
 }

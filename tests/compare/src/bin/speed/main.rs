@@ -1,19 +1,20 @@
-//! How long the library takes beside the second program, by kind of message, and
-//! by pair of tables where two are compared.
+//! How long the library takes beside the second program, by kind of message, by
+//! pair of tables where two are compared, and by measure sheet.
 //!
 //! Both are run by turns in one run, and the shortest of many rounds counts. To
 //! ask is to write with an empty output lent, which tells the length.
 //! Buffers are lent as the call before left them. The floor is a plain loop
 //! that stores as many words as the table has or, where two tables are compared,
-//! compares their words.
+//! compares their words or, where a measure sheet is written, stores its bytes.
 
 mod loads;
 mod measure;
 mod pairs;
+mod sheets;
 
 use compare::library;
-use loads::{loads, Load};
-use measure::{compare_words, measure, store_words, Buffers, Call, Times};
+use loads::{loads, Load, Sheet};
+use measure::{compare_words, measure, store_bytes, store_words, Buffers, Call, Times};
 use pairs::pairs;
 use std::hint::black_box;
 use std::process::ExitCode;
@@ -25,6 +26,9 @@ enum Of {
     /// A table, which a message that is refused has not.
     Table,
     TwoTables,
+    /// A message, read as a measure sheet.
+    SheetToRead,
+    SheetToWrite,
 }
 
 /// An operation as both programs do it.
@@ -40,7 +44,9 @@ impl Operation {
     fn loads(&self) -> impl Iterator<Item = (Load, Buffers)> + use<'_> {
         let all = match self.of {
             Of::TwoTables => pairs(),
-            _ => loads(),
+            Of::SheetToRead => sheets::to_read(),
+            Of::SheetToWrite => sheets::to_write(),
+            Of::Message | Of::Table => loads(),
         };
         let with_buffers = all.into_iter().map(|load| {
             let lent = Buffers::new(&load.given);
@@ -52,6 +58,7 @@ impl Operation {
     fn floor(&self) -> Call {
         match self.of {
             Of::TwoTables => compare_words,
+            Of::SheetToWrite => store_bytes,
             _ => store_words,
         }
     }
@@ -62,7 +69,7 @@ const EMPTY: library::Empty = library::Empty::AsItIs;
 /// The words of a list that is always enough.
 const AMPLE_LIST: usize = 32_768;
 
-const OPERATIONS: [Operation; 5] = [
+const OPERATIONS: [Operation; 7] = [
     Operation {
         name: "read",
         of: Of::Message,
@@ -115,6 +122,33 @@ const OPERATIONS: [Operation; 5] = [
         second: |lent| {
             let list = &mut lent.table[..AMPLE_LIST];
             black_box(second::compare(black_box(&lent.given), &lent.other, list));
+        },
+    },
+    Operation {
+        name: "measure_read",
+        of: Of::SheetToRead,
+        library: |lent| {
+            black_box(library::measure_read(&lent.message, &mut lent.table, EMPTY));
+        },
+        second: |lent| {
+            let message = black_box(&lent.message);
+            black_box(second::measure_read(message, &mut lent.table));
+        },
+    },
+    Operation {
+        name: "measure_write",
+        of: Of::SheetToWrite,
+        library: |lent| {
+            let Sheet {
+                order,
+                unit,
+                figures,
+            } = black_box(lent.sheet);
+            let output = &mut lent.output;
+            black_box(library::measure_write(order, unit, figures, output, EMPTY));
+        },
+        second: |lent| {
+            black_box(lent.write_sheet());
         },
     },
 ];

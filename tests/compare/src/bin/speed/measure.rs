@@ -1,6 +1,6 @@
 //! Times of calls, taken by turns.
 
-use crate::loads::Given;
+use crate::loads::{Given, Sheet};
 use std::hint::black_box;
 use std::time::Instant;
 
@@ -10,6 +10,7 @@ const ROUND: f64 = 300_000.0;
 
 /// What a call is given and lent.
 pub struct Buffers {
+    /// The message to read, or what is to be written of a measure sheet.
     pub message: Vec<u8>,
     /// The message's table, to be written, or the first of two to be compared; no
     /// words if the message is refused.
@@ -19,25 +20,48 @@ pub struct Buffers {
     /// The table to read into, or the list of differences.
     pub table: Vec<u64>,
     pub output: Vec<u8>,
+    /// A measure sheet to write.
+    pub sheet: Sheet,
 }
 
 impl Buffers {
     pub fn new(given: &Given) -> Buffers {
-        let mut table = vec![0; 65_540];
-        let (message, given, other) = match given {
-            Given::Message(message) => {
-                let words = second::read(message, &mut table).words as usize;
-                (message.clone(), table[..words].to_vec(), vec![])
-            }
-            Given::Tables(left, right) => (vec![], left.clone(), right.clone()),
-        };
-        Buffers {
-            message,
-            given,
-            other,
-            table,
+        let mut lent = Buffers {
+            message: vec![],
+            given: vec![],
+            other: vec![],
+            table: vec![0; 65_540],
             output: vec![0; 65_536],
+            sheet: Sheet::default(),
+        };
+        match given {
+            Given::Message(message) => {
+                let words = second::read(message, &mut lent.table).words as usize;
+                lent.message = message.clone();
+                lent.given = lent.table[..words].to_vec();
+            }
+            Given::Tables(left, right) => {
+                lent.given = left.clone();
+                lent.other = right.clone();
+            }
+            Given::Sheet(sheet, room) => {
+                lent.sheet = *sheet;
+                let length = lent.write_sheet().length as usize;
+                lent.message = lent.output[..length].to_vec();
+                lent.output.truncate(*room);
+            }
         }
+        lent
+    }
+
+    /// Writes the measure sheet with the second program.
+    pub fn write_sheet(&mut self) -> second::Writing {
+        let Sheet {
+            order,
+            unit,
+            figures: [chest, waist, sleeve],
+        } = black_box(self.sheet);
+        second::measure_write(order, unit, chest, waist, sleeve, &mut self.output)
     }
 
     /// The rows of the table given.
@@ -70,6 +94,14 @@ pub fn store_words(lent: &mut Buffers) {
         *word = at as u64;
     }
     black_box(&mut lent.table);
+}
+
+/// Stores the bytes of a measure sheet, as far as there is room.
+pub fn store_bytes(lent: &mut Buffers) {
+    for (byte, stored) in lent.message.iter().zip(&mut lent.output) {
+        *stored = *byte;
+    }
+    black_box(&mut lent.output);
 }
 
 /// Compares the words of two tables one by one, as far as both go.
