@@ -8,8 +8,8 @@ use native.Mathlib.Omega.{arith}
 use lib.IntN.{ℤ}
 use Rattle.format.specs.Choice.{pick, both, either}
 use Rattle.format.specs.Numbers.{signed}
-use Rattle.format.proofs.Choices.{pick-yes, pick-no, byLt, byEq, whether, true-lt, clash}
 use Rattle.format.specs.Answers.{Reading}
+use Rattle.format.proofs.Choices.{pick-yes, pick-no, byLt, byEq, whether, true-lt, clash}
 use Rattle.table.specs.Rows.{kindAt, bAt}
 use Rattle.measure.specs.Sheets.{scaleCode, figure, noSheet, isEmpty, anyEmpty, fair, inRange, allInRange, figureNumber, micrometres, measured, measuredAs}
 use Rattle.measure.specs.Words.{sheetAnswer}
@@ -74,6 +74,7 @@ range-rows w e =
     rw (range-at w 5 (f .chest), range-at w 6 (f .waist), range-at w 7 (f .sleeve)) (both-pick (fair (bAt w 5)) (fair (bAt w 6)) (fair (bAt w 7)))
 
 -- ---- the answer with figures
+-- each of them is in range
 record Fairs (w : List ℕ) : Type 0 where
   chest : fair (bAt w 5) ≡ true
   waist : fair (bAt w 6) ≡ true

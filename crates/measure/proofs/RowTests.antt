@@ -50,7 +50,7 @@ empty-at w p =
     byEq (λ f. isEmpty f ≡ eqb (kindAt w p) 5) (kindAt w p) 5 (λ e. sym (eq-true (kindAt w p) 5 e)) (λ n. sym (eq-false (kindAt w p) 5 n))
 
 -- an EMPTY figure decides; where the first two are none, the third does
-pub empties : (w : List ℕ) → anyEmpty (sheetAt w) ≡ either (eqb (kindAt w 5) 5) (either (eqb (kindAt w 6) 5) (eqb (kindAt w 7) 5))
+empties : (w : List ℕ) → anyEmpty (sheetAt w) ≡ either (eqb (kindAt w 5) 5) (either (eqb (kindAt w 6) 5) (eqb (kindAt w 7) 5))
 unfolding anyEmpty sheetAt
 empties w = rw (empty-at w 5, empty-at w 6, empty-at w 7) refl
 

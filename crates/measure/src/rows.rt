@@ -11,9 +11,9 @@ use format::kinds::STRING;
 use format::kinds::XTRA;
 
 // The row of each element; that of the EDT is row 0.
-pub const TYPE: usize = 1;
+const TYPE: usize = 1;
 
-pub const VERSION: usize = 2;
+const VERSION: usize = 2;
 
 pub const ORDER: usize = 3;
 
