@@ -60,13 +60,15 @@ def on_pages(blocks):
 
 ENGINEER_HEAD = """# The numbers, for the engineer
 
-A message that cannot be read whole, a table that cannot be written whole, a pair of tables that cannot be compared whole, or a measure sheet without three sound figures, is refused with a number. **Nothing is guessed, and nothing is cut from a refused sheet.** The page for the person at the bench is [shears.html](shears.html). Both pages are written from [numbers.txt](numbers.txt) by `python3 docs/pages.py`.
+A message that cannot be read whole, a table that cannot be written whole, a pair of tables that cannot be compared whole, a message that cannot be salvaged, or a measure sheet without three sound figures, is refused with a number. **Nothing is guessed, and nothing is cut from a refused sheet.** The page for the person at the bench is [shears.html](shears.html). Both pages are written from [numbers.txt](numbers.txt) by `python3 docs/pages.py`.
 
-The place that reading gives counts bytes from the start of the message, the first byte being 0. With 2 to 9 it is the type-byte of the faulty object, otherwise it is 0. Writing and comparing give no place.
+The place that reading gives counts bytes from the start of the message, the first byte being 0. With 2 to 9 it is the type-byte of the faulty object, otherwise it is 0. Writing, comparing and salvaging give no place.
 
 Reading a sheet gives reading's numbers with all that they tell. With 20 to 22 everything but the number is 0, and the table holds the reading. **With any number but 0 there are no figures.** Writing a sheet tells the length with 0 and 15.
 
 With 2 and 3 reading, and with it normalising and reading a sheet, also tells how many bytes are missing: from the faulty object's own size, or its fixed length, to the end that it passes; where its size field is not whole, the missing bytes of that field alone, and 1 if none of it is there; where a length or count is cut short, the missing bytes of that integer. 65,536 stands for so many or more. With every other number it is 0. sheetlist does not print it.
+
+Salvaging lists what it changed, each change by its place, its number of bytes and a number. **The number of a change is that of these bytes alone**: reading them as a message by themselves, with a table of 65,540 words, gives it, and it means what it means below. An object that is now an EMPTY has 3 to 10. The rest that was dropped has 2, or, where its first byte alone is refused, 4 or 7. With 15 salvaging tells the bytes needed, with 16 the entries, with 1 and 10 nothing. A message that is refused with 2 may only be late: wait for the bytes told missing, and salvage it when they do not come.
 
 Messages that were put end to end are read as one. If the last would be refused by itself with 2 to 9, and those before it are accepted, the whole, if it has at most 65,536 bytes, is refused with the same number and as many bytes missing, and its place is that of the last alone and the length of those before it. With 3 to 9 it is so too where more stands behind it. With 2 it is not: the object that is cut takes the bytes of the next message for its own. The limits are for all of them together: 1 and 10 can be due for the whole where they are due for none.
 
@@ -77,12 +79,13 @@ Messages that were put end to end are read as one. If the last would be refused 
 - **Writing**: 12, 13, 14, 15, in this order.
 - **Normalising**: reading's numbers, then writing's.
 - **Comparing**: 12, for either table; then 16.
+- **Salvaging**: 1, 15, 16, 10, in this order; 10 is for what would come out.
 - **Reading a sheet**: reading's numbers. Then, each for the whole sheet: 20, 21, 22. So an EMPTY beside a figure out of range is 21.
 - **Writing a sheet**: 20, 22, 15, in this order.
 
 ## Where a number can come from
 
-12 comes of what the engine gives to write or to compare, and 13 of what it gives to write, never of a room's message. 14 and 15 come of that too, and of normalising a good message from a room. 16 comes of comparing, also of tables that were read from good messages. 20, 21 and 22 come of a good message from a room that is read as a measure sheet; 15, 20 and 22 also of what the engine gives to write as one. Nothing gives 17 to 19.
+12 comes of what the engine gives to write or to compare, and 13 of what it gives to write, never of a room's message. 14 and 15 come of that too, and of normalising a good message from a room. 16 comes of comparing, also of tables that were read from good messages. 1, 10, 15 and 16 come of salvaging a room's message, good or damaged. 20, 21 and 22 come of a good message from a room that is read as a measure sheet; 15, 20 and 22 also of what the engine gives to write as one. Nothing gives 17 to 19.
 """
 
 ENGINEER_FOOT = """
@@ -177,7 +180,7 @@ BENCH_PAGE = """<!DOCTYPE html>
 {accepted}</section>
 <section class="refused">
 <h2>Refused: cut nothing.</h2>
-<p>It says “refused 6 at 212”: look for the 6, and pass on both numbers.</p>
+<p>It says “refused 6 at 212”, also of a part: look for the 6, and pass on both.</p>
 {refused}</section>
 </main>
 <footer>

@@ -1,17 +1,18 @@
 /*
- * Messages of the MSDTP (RFC 713): reading, writing, normalising and comparing;
- * and measure sheets.
+ * Messages of the MSDTP (RFC 713): reading, writing, normalising, comparing and
+ * salvaging; and measure sheets.
  *
  *   msdtp_read           the bytes of a message to a table of its items
  *   msdtp_write          a table of items to the bytes of its normal form
  *   msdtp_normalise      the bytes of a message to the bytes of its normal form
  *   msdtp_compare        two tables of items to a list of their differences
+ *   msdtp_salvage        the bytes of a damaged message to those of a sound one
  *   msdtp_measure_read   the bytes of a measure sheet to its figures
  *   msdtp_measure_write  the figures of a measure sheet to its bytes
  *
  * Link with libmsdtp.a. Everything that a caller needs to know stands here, in
  * this order: lent buffers, numbers, limits and sizes, the table, the
- * operations, those of measure sheets, three complete examples.
+ * operations, those of measure sheets, four complete examples.
  */
 
 #ifndef MSDTP_H
@@ -31,13 +32,13 @@ extern "C" {
  * output instead; in 0.6.0 a string became one row, with its characters in data
  * words: what makes or walks tables must be changed; in 0.7.0 msdtp_compare came,
  * and with it number 16; in 0.8.0 msdtp_measure_read and msdtp_measure_write came,
- * and with them the numbers 20 to 22: the other operations answer as they did in
- * 0.7.0.
+ * and with them the numbers 20 to 22; in 0.9.0 msdtp_salvage came, and no number
+ * with it: the other operations answer as they did in 0.8.0.
  */
 #define MSDTP_VERSION_MAJOR 0
-#define MSDTP_VERSION_MINOR 8
+#define MSDTP_VERSION_MINOR 9
 #define MSDTP_VERSION_PATCH 0
-#define MSDTP_VERSION "0.8.0"
+#define MSDTP_VERSION "0.9.0"
 
 /*
  * LENT BUFFERS
@@ -81,6 +82,8 @@ typedef char msdtp_size_t_has_64_bits[sizeof(size_t) == 8 ? 1 : -1];
  * msdtp_normalise gives 0 to 11 as reading does, then 14 and 15. What was read
  * is well formed and not too deep, so 12 and 13 are never due.
  * msdtp_compare gives 0, 12 and 16: it looks for 12 in both tables, then for 16.
+ * msdtp_salvage gives 0, 1, 15, 16 and 10, looked for in this order. The changes
+ * that it lists have numbers of their own, 2 to 10: those of msdtp_read.
  *
  * msdtp_measure_read gives 0 to 11 as reading does, then 20, 21 and 22, looked for
  * in this order: each in the whole sheet before the next.
@@ -159,9 +162,14 @@ static inline const char *msdtp_meaning(uint64_t number)
 #define MSDTP_HEADER_WORDS 4     /* words before the first row */
 #define MSDTP_ROW_WORDS 3        /* words of a row */
 #define MSDTP_DIFFERENCE_WORDS 2 /* words of an entry of msdtp_compare's list */
+#define MSDTP_CHANGE_WORDS 3     /* words of an entry of msdtp_salvage's list */
 #define MSDTP_TABLE_WORDS 65540  /* always enough for the table of a message */
-#define MSDTP_OUTPUT_BYTES 65536 /* always enough for a normal form */
-#define MSDTP_LIST_WORDS 32768   /* always enough for a list: 16,384 entries */
+#define MSDTP_OUTPUT_BYTES 65536 /* always enough for a normal form, and for what
+                                    msdtp_salvage writes */
+#define MSDTP_LIST_WORDS 32768   /* always enough for msdtp_compare's list: 16,384
+                                    entries */
+#define MSDTP_SALVAGE_WORDS 98304 /* always enough for msdtp_salvage's list:
+                                     32,768 entries */
 
 #define MSDTP_TENTHS_CM 0       /* a sheet's figures are tenths of a centimetre */
 #define MSDTP_EIGHTHS_INCH 1    /* a sheet's figures are eighths of an inch */
@@ -450,6 +458,97 @@ struct msdtp_comparing {
 
 struct msdtp_comparing msdtp_compare(const uint64_t *left, size_t left_len,
                                      const uint64_t *right, size_t right_len,
+                                     uint64_t *list, size_t list_len);
+
+/*
+ * Salvages a message: one damaged sheet does not cost the batch. What is sound is
+ * copied to the output, and what is not is replaced or dropped, and listed. No
+ * table is lent.
+ *
+ * The outermost objects are gone through from left to right. How far one of them
+ * reaches, its EXTENT, is told by its type-byte and its size alone:
+ *
+ *   00 to BF, F8 to FE   the type-byte
+ *   E0 to E7, F0 to F7   and 1 to 7 bytes by its low three bits; 0 there means 8
+ *   C1 to DF             and a size field, and as many bytes as that says: C7 to
+ *                        DF too, which mean nothing otherwise
+ *   C0, E8 to EF         not known; nor is any whose size field is not whole
+ *
+ *   - An object whose extent lies in the message, and which as a message by itself
+ *     would be refused by msdtp_read, however long the table lent, is REPLACED, all
+ *     of it, by one EMPTY (FE). An outermost REPEAT is one of these, and so is an
+ *     object that has too many rows or data words by itself.
+ *   - At the first object whose extent is not known or passes the message's end,
+ *     the REST of the message, from its type-byte on, is DROPPED.
+ *   - All else is copied as it is, padding too.
+ *
+ * The EMPTY means what it always means: stop and ask. It stands for the sheet that
+ * was there, and the sheets around it keep their places. Sizes are believed: where
+ * a size itself was damaged, what stands behind that object may be taken for other
+ * objects than were sent. Whoever uses what comes out looks at the list first.
+ *
+ * Each change is an entry of the list, three words, in the order of the message:
+ *
+ *   place    the offset in the message of the first byte replaced or dropped, which
+ *            is the object's type-byte: padding before it is kept
+ *   bytes    how many were replaced or dropped
+ *   number   the number with which msdtp_read refuses these bytes alone, however
+ *            long the table lent. Of a replaced object it is 3 to 10. Of a dropped
+ *            rest it is 4 where its first byte is C0, C7 to DF or E8 to EF, 7 where
+ *            that is C4, and otherwise 2
+ *
+ * The EMPTY of an entry stands in the output at the entry's place, less the bytes
+ * of the entries before it, and one more for each of these. Where that is `length`
+ * there is none: the entry is the dropped rest, which only the last can be.
+ *
+ *   81 F1 00 82                  81 FE 82; entry 1, 2, 6
+ *   C2 05 81 C5 02 81 41 82      FE 82; entry 0, 7, 8: the STRUC is replaced whole,
+ *                                for the USTRUC in it
+ *   FF C4 02 82 80 FF            FF FE FF; entry 1, 4, 7
+ *   81 FF C3 07 8C 81            81 FF; entry 2, 4, 2: dropped
+ *   C7 01 81 E8 81 82            FE; entries 0, 3, 4 and 3, 3, 4: the second is the
+ *                                dropped rest
+ *
+ * With 0, what comes out is accepted by msdtp_read, room being lent. There are no
+ * entries exactly where the message itself is accepted so, and it then comes out as
+ * it is. Otherwise the output is shorter than the message by one byte at least for
+ * each entry.
+ *
+ *   number   length                entries
+ *   0        those of the output   those of the list
+ *   15       those needed          0
+ *   16       0                     those needed
+ *   1, 10    0                     0
+ *
+ * With 0, the first `length` bytes of the output are what comes out, the first
+ * MSDTP_CHANGE_WORDS * entries words of the list are the entries, and all bytes and
+ * words after them are as they were. With any other number the whole output and
+ * the whole list are as they were.
+ *
+ * It is 1 where the message is over MSDTP_BYTE_LIMIT. Otherwise it is 15 exactly
+ * where the output is shorter than what comes out; then 16 exactly where the list
+ * has room for fewer entries than there are; then 10 where what would come out is
+ * over MSDTP_ROW_LIMIT or MSDTP_WORD_LIMIT, as no object of it is by itself. With
+ * 10 no buffers help: have the message sent in parts.
+ *
+ * So a caller who asks for what is needed lends empty buffers, null or not. The
+ * answer is 15 with the bytes; or, where nothing comes out, 16 with the entries or
+ * 0 with none. With those bytes lent it is 16 with the entries or, where there are
+ * none, 0 or 10. A list whose length is no multiple of three has room for the
+ * entries that fit, and the words left over are never changed.
+ *
+ * The usual way to salvage is to lend an output as long as the message, which is
+ * always enough, and a list as 16 tells, as the fourth example does. A message of n
+ * bytes has at most (n + 1) / 2 changes, and with 0 never more than 16,385. A caller
+ * of fixed room may lend MSDTP_OUTPUT_BYTES and MSDTP_SALVAGE_WORDS, which are always
+ * enough.
+ */
+struct msdtp_salvaging {
+    uint64_t number, length, entries;
+};
+
+struct msdtp_salvaging msdtp_salvage(const uint8_t *message, size_t message_len,
+                                     uint8_t *output, size_t output_len,
                                      uint64_t *list, size_t list_len);
 
 /*
@@ -846,6 +945,88 @@ struct msdtp_writing msdtp_measure_write(int64_t order, uint64_t unit, uint64_t 
  *     order 4713: cut 1016000, 863600, 647700
  *     order 4712: stop and ask for the chest
  *     cut nothing: what was given is no measure sheet
+ */
+
+/*
+ * A FOURTH EXAMPLE, COMPLETE: A DAMAGED BATCH
+ *
+ *     #include <inttypes.h>
+ *     #include <stdio.h>
+ *     #include <stdlib.h>
+ *     #include "msdtp.h"
+ *
+ *     // A measure sheet; one whose sleeve wants a byte more than the sheet has;
+ *     // padding and a note; and a sheet of which the end was lost.
+ *     static const uint8_t batch[] = {
+ *         0xC3, 0x07, 0x8C, 0x81, 0x81, 0xF8, 0x85, 0x86, 0x87,
+ *         0xC3, 0x08, 0x8C, 0x81, 0x82, 0xF8, 0x85, 0x86, 0xE2, 0x03,
+ *         0xFF, 0xC6, 0x03, 'c', 'u', 't',
+ *         0xC3, 0x07, 0x8C, 0x81, 0x83, 0xF8
+ *     };
+ *     static uint8_t mended[sizeof batch];
+ *     static uint64_t table[MSDTP_TABLE_WORDS];
+ *
+ *     // The usual way to salvage. The caller frees the list after any answer. It is
+ *     // null if nothing was lent, as for a sound message. 16 is left only where
+ *     // there is no memory for so many entries.
+ *     static struct msdtp_salvaging salvage(uint64_t **list)
+ *     {
+ *         *list = NULL;
+ *         struct msdtp_salvaging s = msdtp_salvage(batch, sizeof batch,
+ *                                                  mended, sizeof mended, NULL, 0);
+ *         while (s.number == MSDTP_LIST_SHORT) {
+ *             size_t words = MSDTP_CHANGE_WORDS * s.entries;
+ *             uint64_t *longer = (uint64_t *)realloc(*list, words * sizeof *longer);
+ *             if (longer == NULL)
+ *                 break;
+ *             *list = longer;
+ *             s = msdtp_salvage(batch, sizeof batch, mended, sizeof mended,
+ *                               longer, words);
+ *         }
+ *         return s;
+ *     }
+ *
+ *     // Prints the entries. `gone` is how many bytes the output is behind.
+ *     static void print_changes(const uint64_t *list, uint64_t entries, uint64_t length)
+ *     {
+ *         uint64_t gone = 0;
+ *         for (uint64_t i = 0; i < entries; i++) {
+ *             const uint64_t *entry = list + MSDTP_CHANGE_WORDS * i;
+ *             printf("from %" PRIu64 " on, %" PRIu64 " bytes: %s\n", entry[0], entry[1],
+ *                    msdtp_meaning(entry[2]));
+ *             if (entry[0] - gone < length)
+ *                 printf("  now EMPTY, at %" PRIu64 "\n", entry[0] - gone);
+ *             else
+ *                 printf("  dropped\n");
+ *             gone += entry[1] - 1;
+ *         }
+ *     }
+ *
+ *     int main(void)
+ *     {
+ *         uint64_t *list;
+ *         struct msdtp_salvaging s = salvage(&list);
+ *         printf("%s: %" PRIu64 " bytes, %" PRIu64 " changes\n",
+ *                msdtp_meaning(s.number), s.length, s.entries);
+ *         if (s.number == MSDTP_ACCEPTED)
+ *             print_changes(list, s.entries, s.length);
+ *         free(list);
+ *         if (s.number != MSDTP_ACCEPTED)
+ *             return 1;
+ *         struct msdtp_reading r = msdtp_read(mended, s.length,
+ *                                             table, MSDTP_TABLE_WORDS);
+ *         printf("%s: %" PRIu64 " outermost items\n", msdtp_meaning(r.number), table[1]);
+ *         return 0;
+ *     }
+ *
+ * The fourth prints:
+ *
+ *     accepted: 16 bytes, 2 changes
+ *     from 9 on, 10 bytes: an object does not fit into the one that holds it
+ *       now EMPTY, at 9
+ *     from 25 on, 6 bytes: the message ends in the middle of an object
+ *       dropped
+ *     accepted: 3 outermost items
  */
 
 #ifdef __cplusplus

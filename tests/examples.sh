@@ -2,13 +2,15 @@
 # Builds the examples for C and those for Rust and runs them on the messages of examples/. Each 'measure' is run on every message,
 # and what it prints and its exit status are compared with what is stored in examples/c/expected and bindings/rust/expected. Both
 # 'changes' are run on every two messages and print the same with the same exit status, which for some pairs is stored in
-# examples/changes. Both 'sheet' write a message of examples/ byte for byte, and what they write is read by 'measure'. The archive
-# is that of target/staticlib, or of the folder that MSDTP_LIB_DIR names. The last line is 'N passed, M failed', and the exit status
-# is 0 only when nothing failed.
+# examples/changes. Both 'salvage' are run on every message, print the same and write the same, which for some messages is stored
+# in examples/salvage. Both 'sheet' write a message of examples/ byte for byte, and what they write is read by 'measure'. The
+# archive is that of target/staticlib, or of the folder that MSDTP_LIB_DIR names. The last line is 'N passed, M failed', and the
+# exit status is 0 only when nothing failed.
 set -u
 crate=msdtp
-messages=10
+messages=12
 pairs=9
+salvages=4
 cd "$(dirname "$0")/.." || exit 1
 archive=lib$crate.a
 library=$(cd "${MSDTP_LIB_DIR:-target/staticlib}" 2>/dev/null && pwd)
@@ -63,6 +65,41 @@ trouble() {
     fails 2 "$1" changes "${@:2}"
 }
 
+# mended LANGUAGE MESSAGE: salvages a message into a new file, $folder/kept.LANGUAGE, and prints what was changed, with the exit
+# status.
+mended() {
+    rm -f "$folder/kept.$1"
+    with_status "run_$1" salvage "$2" "$folder/kept.$1"
+}
+
+# mended_alike MESSAGE: both languages print the same and write the same, in which nothing is left to be changed.
+mended_alike() {
+    mended c "$1" >"$folder/mended.c"
+    grep -qE '^exit status [01]$' "$folder/mended.c" || return
+    mended rust "$1" | diff "$folder/mended.c" - && cmp "$folder/kept.c" "$folder/kept.rust" || return
+    cp "$folder/kept.c" "$folder/again.msg"
+    mended c "$folder/again.msg" | grep -qx 'exit status 0' && cmp "$folder/kept.c" "$folder/again.msg"
+}
+
+# kept LANGUAGE NAME KEPT: what is stored of a message is printed, and what is kept of it is this file.
+kept() {
+    mended "$1" "examples/$2.msg" | diff "examples/salvage/$2.txt" - && cmp "$folder/kept.$1" "$3"
+}
+
+# not_mended LANGUAGE BYTES COUNT WORDS: so many of these bytes are refused with these words, and there is no new file.
+not_mended() {
+    head -c "$3" /dev/zero | tr '\0' "$2" >"$folder/bad.msg"
+    mended "$1" "$folder/bad.msg" | diff - <(printf '%s; nothing is written\nexit status 2\n' "$4") && [ ! -e "$folder/kept.$1" ]
+}
+
+# not_over LANGUAGE OLD NEW: a file that is there already is not written over, and both stay as they are.
+not_over() {
+    cp examples/damaged-batch.msg "$folder/old.msg"
+    cp examples/note.msg "$folder/new.msg"
+    fails 2 "$1" salvage "$folder/$2" "$folder/$3" || return
+    cmp "$folder/old.msg" examples/damaged-batch.msg && cmp "$folder/new.msg" examples/note.msg
+}
+
 # writes LANGUAGE MESSAGE ARGUMENT..: the sheet of these arguments is this message.
 writes() {
     "run_$1" sheet "${@:3}" >"$folder/sheet.msg" && cmp "$folder/sheet.msg" "$2"
@@ -85,7 +122,7 @@ measured() {
 if [ -z "$library" ] || [ ! -f "$library/$archive" ]; then
     lacking "The archive $archive is not there. Build it with rt staticlib $crate, or set MSDTP_LIB_DIR to its folder."
 fi
-for example in measure changes sheet; do
+for example in measure changes salvage sheet; do
     check "C example $example: build" build_c "$example"
     check "Rust example $example: build" cargo_example build "$example"
 done
@@ -95,6 +132,7 @@ for message in examples/*.msg; do
     name=$(basename "$message" .msg)
     check "C example: $name" compare "examples/c/expected/$name.txt" run_c measure "$message"
     check "Rust example: $name" compare "bindings/rust/expected/$name.txt" run_rust measure "$message"
+    check "salvage $message: alike in C and Rust" mended_alike "$message"
     for other in examples/*.msg; do
         check "changes from $message to $other: alike in C and Rust" alike "$message" "$other"
     done
@@ -109,7 +147,21 @@ for expected in examples/changes/*.txt; do
     done
 done
 check "$pairs pairs, $met met" [ "$met" -eq "$pairs" ]
+check "$salvages salvaged" [ "$(find examples/salvage -name '*.txt' | wc -l)" -eq "$salvages" ]
 for language in c rust; do
+    check "salvage in $language: a damaged batch" kept "$language" damaged-batch examples/mended-batch.msg
+    check "salvage in $language: what comes out of it" kept "$language" mended-batch examples/mended-batch.msg
+    check "salvage in $language: a sound batch" kept "$language" batch examples/batch.msg
+    check "salvage in $language: a sheet that was cut" kept "$language" cut /dev/null
+    check "salvage in $language: too long" not_mended "$language" '\377' 65537 'refused 1: the message is longer than 65,536 bytes'
+    check "salvage in $language: too many rows" not_mended "$language" '\201' 16385 \
+        'refused 10: more than 16,384 rows, or more than 16,384 words of bits and strings'
+    check "salvage in $language: another file is there" not_over "$language" old.msg new.msg
+    check "salvage in $language: the same file" not_over "$language" old.msg old.msg
+    check "salvage in $language: no such file" fails 2 "$language" salvage examples/none.msg "$folder/none.msg"
+    check "salvage in $language: no such folder" fails 2 "$language" salvage examples/batch.msg "$folder/none/new.msg"
+    check "salvage in $language: one file" fails 2 "$language" salvage examples/batch.msg
+    check "salvage in $language: three files" fails 2 "$language" salvage examples/batch.msg "$folder/1.msg" "$folder/2.msg"
     check "changes in $language: no files" trouble "$language"
     check "changes in $language: one file" trouble "$language" examples/note.msg
     check "changes in $language: three files" trouble "$language" examples/note.msg examples/note.msg examples/note.msg

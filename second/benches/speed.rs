@@ -1,8 +1,8 @@
 //! How long reading, writing and comparing take, by kind of message. To ask is to
 //! write with an empty output lent; a message's table is compared with itself. To
-//! measure is to read the message as a measure sheet.
+//! measure is to read the message as a measure sheet, and to salvage is to mend it.
 
-use second::{compare, measure_read, measure_write, normalise, read, write};
+use second::{compare, measure_read, measure_write, normalise, read, salvage, write};
 use std::hint::black_box;
 use std::time::Instant;
 
@@ -60,6 +60,13 @@ fn cut_short(message: Vec<u8>) -> Vec<u8> {
     many
 }
 
+/// So many letters, each with an EMPTY in the place of its version.
+fn damaged(count: usize) -> Vec<u8> {
+    let mut letter = letter();
+    letter[3] = 0xFE;
+    letter.repeat(count)
+}
+
 fn small_loads() -> Vec<Load> {
     vec![
         load("nothing", "message", vec![], 1),
@@ -111,6 +118,7 @@ fn large_loads() -> Vec<Load> {
         load("BITS copied", "row", copied_bits, 16_384),
         load("letters", "message", letter().repeat(200), 200),
         load("letters, the last cut", "message", cut_short(letter()), 200),
+        load("letters, each damaged", "message", damaged(200), 200),
     ]
 }
 
@@ -169,7 +177,12 @@ fn measure(load: &Load, calls: usize) {
     let measuring = shortest(calls, || {
         black_box(measure_read(black_box(message), &mut table));
     });
-    let times = [reading, writing, asking, both, comparing, measuring];
+    let salvaging = shortest(calls, || {
+        black_box(salvage(black_box(message), &mut output, &mut table));
+    });
+    let times = [
+        reading, writing, asking, both, comparing, measuring, salvaging,
+    ];
     line(load, &times);
 }
 
@@ -182,8 +195,8 @@ fn line(load: &Load, times: &[f64]) {
 
 fn main() {
     println!(
-        "{:24} {:9} {:>9} {:>9} {:>9} {:>9} {:>9} {:>9}",
-        "ns for a", "", "read", "write", "ask", "normalise", "compare", "measure"
+        "{:24} {:9} {:>9} {:>9} {:>9} {:>9} {:>9} {:>9} {:>9}",
+        "ns for a", "", "read", "write", "ask", "normalise", "compare", "measure", "salvage"
     );
     let small = small_loads().into_iter().map(|load| (load, 50_000));
     let large = large_loads().into_iter().chain(loads_of_strings());

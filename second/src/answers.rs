@@ -90,6 +90,16 @@ pub struct MeasureReading {
     pub sleeve_um: u64,
 }
 
+/// What salvaging answers: the bytes written and the entries listed with number 0,
+/// the bytes alone that are needed with number 15, the entries alone with number 16,
+/// and otherwise 0.
+#[derive(Clone, Copy, Debug, PartialEq, Eq)]
+pub struct Salvaging {
+    pub number: u64,
+    pub length: u64,
+    pub entries: u64,
+}
+
 /// A fault met in a message, at the offset of the faulty object's type-byte.
 #[derive(Clone, Copy, Debug, PartialEq, Eq)]
 pub struct Fault {

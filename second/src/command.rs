@@ -8,6 +8,7 @@
 //! | `compare WORDS WORD.. / WORD..` | `number N entries E stray S list ROW..` |
 //! | `measure_read HEX WORDS` | `number N place P words W missing M order O unit U figures C W S micrometres C W S stray S table WORD..` |
 //! | `measure_write BYTES ORDER UNIT CHEST WAIST SLEEVE` | `number N length L stray S output HEX` |
+//! | `salvage HEX BYTES WORDS` | `number N length L entries E stray S output HEX list PLACE BYTES NUMBER..` |
 //! | `list HEX` | `text` and the listing, each of its newlines as `\n` |
 //!
 //! HEX is a run of hexadecimal digits, two for each byte, or `-` for no bytes;
@@ -18,13 +19,15 @@
 //! and a list of so many words; the entries listed are two rows each.
 //! `measure_read` answers the table that was read with 20, 21 and 22 too. With
 //! numbers 2 and 3, `missing` tells how many bytes are wanting, at most 65,536;
-//! otherwise 0.
+//! otherwise 0. `salvage` is lent an output of so many bytes and a list of so many
+//! words; the changes listed are three numbers each.
 //! The room is filled beforehand with numbers that say nothing; `stray` counts
 //! the words and bytes changed that should not have been. Anything else is
 //! answered with `error: ` and a help in one line.
 
 use crate::answers::{ACCEPTED, TABLE_TOO_SHORT};
-use crate::{compare, listing, measure_read, measure_write, normalise, read, write, Writing};
+use crate::Writing;
+use crate::{compare, listing, measure_read, measure_write, normalise, read, salvage, write};
 use std::fmt::Write as _;
 
 /// The most words or bytes that a request may lend.
@@ -33,7 +36,7 @@ const MOST_LENT: usize = 1 << 20;
 const HELP: &str = "read HEX WORDS | write BYTES WORD.. | normalise HEX WORDS BYTES | \
                     compare WORDS WORD.. / WORD.. | measure_read HEX WORDS | \
                     measure_write BYTES ORDER UNIT CHEST WAIST SLEEVE | \
-                    list HEX (HEX is - for no bytes)";
+                    salvage HEX BYTES WORDS | list HEX (HEX is - for no bytes)";
 
 /// The answer to one request, without a newline.
 pub fn answer(request: &str) -> String {
@@ -62,8 +65,11 @@ fn answer_to(request: &str) -> Result<String, String> {
         ("measure_write", [room, order, sheet @ ..]) if sheet.len() == 4 => {
             measure_write_request(lent(room)?, order, &words(sheet)?)
         }
+        ("salvage", [message, room, list]) => {
+            Ok(salvage_answer(&bytes(message)?, lent(room)?, lent(list)?))
+        }
         ("list", [message]) => Ok(list_answer(&bytes(message)?)),
-        ("read" | "write" | "normalise" | "compare" | "list", _)
+        ("read" | "write" | "normalise" | "compare" | "salvage" | "list", _)
         | ("measure_read" | "measure_write", _) => Err(format!("{name} has other fields")),
         _ => Err("no such request".to_string()),
     }
@@ -181,6 +187,23 @@ fn measure_write_request(lent: usize, order: &str, sheet: &[u64]) -> Result<Stri
     let mut output = poisoned_bytes(lent);
     let writing = measure_write(order, sheet[0], sheet[1], sheet[2], sheet[3], &mut output);
     Ok(written_answer(writing, &output))
+}
+
+fn salvage_answer(message: &[u8], lent_bytes: usize, lent_words: usize) -> String {
+    let mut output = poisoned_bytes(lent_bytes);
+    let mut list = poisoned_words(lent_words);
+    let answer = salvage(message, &mut output, &mut list);
+    let (written, listed) = match answer.number {
+        ACCEPTED => (answer.length as usize, 3 * answer.entries as usize),
+        _ => (0, 0),
+    };
+    let stray = stray_bytes(&output[written..], written) + stray_words(&list[listed..], listed);
+    let head = format!(
+        "number {} length {} entries {} stray {stray} output ",
+        answer.number, answer.length, answer.entries
+    );
+    let head = with_bytes(head, &output[..written]) + " list";
+    with_words(head, &list[..listed])
 }
 
 fn list_answer(message: &[u8]) -> String {

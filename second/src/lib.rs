@@ -7,6 +7,9 @@
 //! of the lent list changes, then lists them.
 //! A measure sheet is read by reading a message and looking at the rows of its
 //! table, and written byte by byte.
+//! Salvaging walks the outermost objects of a message and counts what is to be
+//! changed before a byte of the lent output or a word of the lent list changes, then
+//! copies the rest and lists the changes.
 //! None of them takes memory of its own beyond a small stack.
 
 #![forbid(unsafe_code)]
@@ -28,6 +31,7 @@ mod listing;
 mod measure;
 mod normal;
 mod read;
+mod salvage;
 mod scan;
 mod sizes;
 mod stretch;
@@ -35,11 +39,12 @@ mod strings;
 mod summary;
 mod write;
 
-pub use answers::{Comparing, MeasureReading, Normalising, Reading, Writing};
+pub use answers::{Comparing, MeasureReading, Normalising, Reading, Salvaging, Writing};
 pub use answers::{MOST_BYTES, MOST_DATA_WORDS, MOST_MISSING, MOST_NESTED, MOST_ROWS};
 pub use compare::compare;
 pub use listing::{listing, LISTING_BYTES, LISTING_WORDS};
 pub use measure::{measure_read, measure_write};
 pub use normal::normalise;
 pub use read::read;
+pub use salvage::salvage;
 pub use write::write;

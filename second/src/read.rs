@@ -1,10 +1,9 @@
 //! Reading: from a message to a table.
 
 use crate::answers::{
-    Fault, Reading, ACCEPTED, INPUT_TOO_LONG, MOST_BYTES, MOST_DATA_WORDS, MOST_ROWS,
-    TABLE_OVER_LIMITS, TABLE_TOO_SHORT,
+    Fault, Reading, ACCEPTED, INPUT_TOO_LONG, MOST_BYTES, TABLE_OVER_LIMITS, TABLE_TOO_SHORT,
 };
-use crate::summary::Summary;
+use crate::summary::{are_within_limits, Summary};
 use crate::{fill, scan};
 
 /// Reads a message into a lent table. A refusal leaves the table as it was;
@@ -17,7 +16,7 @@ pub fn read(message: &[u8], table: &mut [u64]) -> Reading {
         Ok(sum) => sum,
         Err(fault) => return faulty(fault),
     };
-    if sum.rows() > MOST_ROWS || sum.data_words > MOST_DATA_WORDS {
+    if !are_within_limits(sum.rows(), sum.data_words) {
         return without_fault(TABLE_OVER_LIMITS, 0);
     }
     let words = 4 + 3 * sum.rows() + sum.data_words;

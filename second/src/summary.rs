@@ -1,5 +1,6 @@
 //! What a run of objects adds up to, repeats laid out.
 
+use crate::answers::{MOST_DATA_WORDS, MOST_ROWS};
 use crate::kinds::{elements, ranks, sets, Element};
 use crate::strings;
 
@@ -127,6 +128,12 @@ impl Summary {
     pub fn begins_edt(&self) -> bool {
         self.first() != ranks::NEITHER && self.second() == ranks::INT
     }
+}
+
+/// Whether a table may have so many rows and data words.
+#[inline(always)]
+pub fn are_within_limits(rows: u64, data_words: u64) -> bool {
+    rows <= MOST_ROWS && data_words <= MOST_DATA_WORDS
 }
 
 fn times(count: u64, repeats: u64) -> u64 {

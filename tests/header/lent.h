@@ -79,7 +79,8 @@ const char *meaning_elsewhere(uint64_t number);
 
 /*
  * The checks of tables.c, strings.c, writing.c, missing.c, cuts.c, joining.c,
- * comparing.c, measure.c, measure_passed.c, measure_writing.c and limits.c.
+ * comparing.c, salvage.c, salvage_limits.c, measure.c, measure_passed.c,
+ * measure_writing.c and limits.c.
  */
 void check_tables(void);
 void check_strings(void);
@@ -88,6 +89,8 @@ void check_missing(void);
 void check_cuts(void);
 void check_joining(void);
 void check_comparing(void);
+void check_salvaging(void);
+void check_salvaging_limits(void);
 void check_measure_reading(void);
 void check_measure_passed(void);
 void check_measure_writing(void);

@@ -16,7 +16,8 @@ static void check_layout(const char *version)
 
     check("struct sizes", sizeof(struct msdtp_reading) == 32
           && sizeof(struct msdtp_writing) == 16 && sizeof(struct msdtp_normalising) == 40
-          && sizeof(struct msdtp_comparing) == 16 && sizeof(struct msdtp_measure_reading) == 96);
+          && sizeof(struct msdtp_comparing) == 16 && sizeof(struct msdtp_salvaging) == 24
+          && sizeof(struct msdtp_measure_reading) == 96);
     sprintf(parts, "%d.%d.%d", MSDTP_VERSION_MAJOR, MSDTP_VERSION_MINOR, MSDTP_VERSION_PATCH);
     check("version in parts", strcmp(parts, MSDTP_VERSION) == 0);
     check("version of the Rust crate", strcmp(version, MSDTP_VERSION) == 0);
@@ -45,6 +46,9 @@ static void check_fields(void)
           && offsetof(struct msdtp_normalising, missing) == 32);
     check("fields of a comparing", offsetof(struct msdtp_comparing, number) == 0
           && offsetof(struct msdtp_comparing, entries) == 8);
+    check("fields of a salvaging", offsetof(struct msdtp_salvaging, number) == 0
+          && offsetof(struct msdtp_salvaging, length) == 8
+          && offsetof(struct msdtp_salvaging, entries) == 16);
 }
 
 static void check_measure_fields(void)
@@ -147,6 +151,7 @@ static void check_null(void)
           msdtp_compare(NULL, 0, NULL, 0, NULL, 0).number == MSDTP_NOT_A_TABLE
           && msdtp_compare(NULL, 0, table, MSDTP_HEADER_WORDS, list, MSDTP_LIST_WORDS).number == MSDTP_NOT_A_TABLE
           && msdtp_compare(table, MSDTP_HEADER_WORDS, NULL, 0, list, MSDTP_LIST_WORDS).number == MSDTP_NOT_A_TABLE);
+    check("null: nothing to salvage", msdtp_salvage(NULL, 0, NULL, 0, NULL, 0).number == MSDTP_ACCEPTED);
 }
 
 /* Each of the numbers was answered in some check. */
@@ -175,6 +180,8 @@ int main(int count, char **arguments)
     check_cuts();
     check_joining();
     check_comparing();
+    check_salvaging();
+    check_salvaging_limits();
     check_measure_reading();
     check_measure_passed();
     check_measure_writing();

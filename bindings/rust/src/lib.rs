@@ -1,5 +1,5 @@
-//! Messages of the MSDTP (RFC 713): reading, writing, normalising and comparing;
-//! and measure sheets; by the product's proved static library.
+//! Messages of the MSDTP (RFC 713): reading, writing, normalising, comparing and
+//! salvaging; and measure sheets; by the product's proved static library.
 //!
 //! Every operation works in slices that the caller lends. Nothing is allocated,
 //! no state is kept between calls, and a refused operation leaves untouched
@@ -23,8 +23,9 @@
 //! # Ok::<(), msdtp::Refused>(())
 //! ```
 //!
-//! What changed from one message to another is told by [`compare`]. The figures of
-//! a measure sheet are told by [`measure_read`], and [`measure_write`] writes one.
+//! What changed from one message to another is told by [`compare`]. What is sound in
+//! a damaged one is kept by [`salvage`]. The figures of a measure sheet are told by
+//! [`measure_read`], and [`measure_write`] writes one.
 
 #![deny(unsafe_code, missing_docs)]
 
@@ -38,6 +39,7 @@ pub mod numbers;
 mod operations;
 mod refused;
 mod rows;
+mod salvage;
 #[allow(unsafe_code)]
 pub mod sys;
 mod text;
@@ -48,6 +50,7 @@ pub use measure::{measure_read, measure_write, Measured, Micrometres, Sheet, Uni
 pub use operations::{normalise, read, write, Normalised, Read};
 pub use refused::Refused;
 pub use rows::{rows, Items, Row, Rows};
+pub use salvage::{salvage, Change, Changes, Salvaged};
 pub use text::Text;
 
 /// The version of this crate and of the C header `msdtp.h`.
@@ -75,16 +78,23 @@ pub const ROW_WORDS: usize = 3;
 /// An entry of the list that [`compare`] fills has so many words.
 pub const DIFFERENCE_WORDS: usize = 2;
 
+/// An entry of the list that [`salvage`] fills has so many words.
+pub const CHANGE_WORDS: usize = 3;
+
 /// So many words are enough for the table of every message: the header, and as
 /// many rows and data words as there may be.
 pub const TABLE_WORDS: usize = HEADER_WORDS + ROW_WORDS * ROW_LIMIT + WORD_LIMIT;
 
-/// So many bytes are enough for every normal form.
+/// So many bytes are enough for every normal form, and for what [`salvage`] writes.
 pub const OUTPUT_BYTES: usize = BYTE_LIMIT;
 
 /// So many words are enough for the list of every two tables: an entry for each
 /// row that there may be.
 pub const LIST_WORDS: usize = DIFFERENCE_WORDS * ROW_LIMIT;
+
+/// So many words are enough for the changes of every message: an entry for every two
+/// bytes that there may be.
+pub const SALVAGE_WORDS: usize = CHANGE_WORDS * (BYTE_LIMIT / 2);
 
 /// The largest figure of a measure sheet; the least is 1.
 pub const FIGURE_MOST: u64 = 20_000;

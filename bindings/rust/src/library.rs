@@ -1,9 +1,9 @@
 //! The static library behind safe functions. All the unsafe code of this crate
-//! is here: six calls. A slice is passed as its pointer and its length; an
+//! is here: seven calls. A slice is passed as its pointer and its length; an
 //! empty one may have any pointer. Slices that are borrowed as these are cannot
 //! overlap where one of them is written to.
 
-use crate::sys::{self, Comparing, MeasureReading, Normalising, Reading, Writing};
+use crate::sys::{self, Comparing, MeasureReading, Normalising, Reading, Salvaging, Writing};
 
 /// Reads a message into a table.
 pub fn read(message: &[u8], table: &mut [u64]) -> Reading {
@@ -37,6 +37,16 @@ pub fn compare(left: &[u64], right: &[u64], list: &mut [u64]) -> Comparing {
     // All slices live through the call, and the list is borrowed for it alone.
     // The two tables are only looked at, and may be the same one.
     unsafe { sys::msdtp_compare(one, one_words, other, other_words, to, words) }
+}
+
+/// Salvages a message into an output and lists the changes.
+pub fn salvage(message: &[u8], output: &mut [u8], list: &mut [u64]) -> Salvaging {
+    let (from, length) = (message.as_ptr(), message.len());
+    let (bytes, to) = (output.len(), output.as_mut_ptr());
+    let (words, entries) = (list.len(), list.as_mut_ptr());
+    // All slices live through the call; the output and the list are borrowed for
+    // it alone.
+    unsafe { sys::msdtp_salvage(from, length, to, bytes, entries, words) }
 }
 
 /// Reads a message that is a measure sheet into a table.

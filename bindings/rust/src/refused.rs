@@ -22,14 +22,15 @@ use std::fmt::{Display, Formatter, Result};
 #[non_exhaustive]
 pub struct Refused {
     /// From 1 to 16 or from 20 to 22, by name in [`numbers`](crate::numbers):
-    /// reading gives 1 to 11, writing 12 to 15, comparing 12 and 16, reading a
-    /// measure sheet 1 to 11 and 20 to 22, writing one 15 and 22.
+    /// reading gives 1 to 11, writing 12 to 15, comparing 12 and 16, salvaging 1,
+    /// 10, 15 and 16, reading a measure sheet 1 to 11 and 20 to 22, writing one 15
+    /// and 22.
     pub number: u64,
     /// The offset of the faulty object's type-byte with 2 to 9, otherwise 0.
     pub place: usize,
     /// The table words needed with 11, the output bytes needed with 15, the
-    /// entries needed with 16, each of [`DIFFERENCE_WORDS`](crate::DIFFERENCE_WORDS);
-    /// otherwise 0.
+    /// entries needed with 16, each of [`DIFFERENCE_WORDS`](crate::DIFFERENCE_WORDS)
+    /// or, in salvaging, of [`CHANGE_WORDS`](crate::CHANGE_WORDS); otherwise 0.
     pub needed: usize,
     /// The table words that hold the reading, if normalising is refused with 14
     /// or 15; otherwise 0. With 20 to 22 the table holds the reading too, and its
@@ -65,28 +66,33 @@ impl Refused {
     /// assert_eq!(refused.meaning(), "what was given is no table of items");
     /// ```
     pub fn meaning(&self) -> &'static str {
-        match self.number {
-            1 => "the message is longer than 65,536 bytes",
-            2 => "the message ends in the middle of an object",
-            3 => "an object does not fit into the one that holds it",
-            4 => "a byte that means nothing in this format",
-            5 => "seventeen containers, one inside the other; sixteen are allowed",
-            6 => "a bit string that does not say how long it is, or says it wrongly",
-            7 => "a repeat where none may stand, or without a proper count",
-            8 => "a list that promises one kind and holds several",
-            9 => "an EDT whose first two elements are not its type and its version",
-            10 => "more than 16,384 rows, or more than 16,384 words of bits and strings",
-            11 => "the table that was lent is too short",
-            12 => "what was given is no table of items",
-            13 => "more than sixteen containers, one inside the other",
-            14 => "the normal form would be longer than 65,536 bytes",
-            15 => "the output that was lent is too short",
-            16 => "the list that was lent is too short",
-            20 => "what was given is no measure sheet",
-            21 => "a figure of the sheet is EMPTY: stop and ask",
-            22 => "a figure of the sheet is not from 1 to 20,000",
-            _ => "no number of the list",
-        }
+        meaning(self.number)
+    }
+}
+
+/// What a refusal's number says.
+pub(crate) fn meaning(number: u64) -> &'static str {
+    match number {
+        1 => "the message is longer than 65,536 bytes",
+        2 => "the message ends in the middle of an object",
+        3 => "an object does not fit into the one that holds it",
+        4 => "a byte that means nothing in this format",
+        5 => "seventeen containers, one inside the other; sixteen are allowed",
+        6 => "a bit string that does not say how long it is, or says it wrongly",
+        7 => "a repeat where none may stand, or without a proper count",
+        8 => "a list that promises one kind and holds several",
+        9 => "an EDT whose first two elements are not its type and its version",
+        10 => "more than 16,384 rows, or more than 16,384 words of bits and strings",
+        11 => "the table that was lent is too short",
+        12 => "what was given is no table of items",
+        13 => "more than sixteen containers, one inside the other",
+        14 => "the normal form would be longer than 65,536 bytes",
+        15 => "the output that was lent is too short",
+        16 => "the list that was lent is too short",
+        20 => "what was given is no measure sheet",
+        21 => "a figure of the sheet is EMPTY: stop and ask",
+        22 => "a figure of the sheet is not from 1 to 20,000",
+        _ => "no number of the list",
     }
 }
 

@@ -60,6 +60,19 @@ pub struct Comparing {
     pub entries: u64,
 }
 
+/// Salvaging's answer: 0 or a refusal's number, the bytes written or needed, and the
+/// entries told or needed.
+#[derive(Clone, Copy, Debug, PartialEq, Eq)]
+#[repr(C)]
+pub struct Salvaging {
+    /// 0, or the refusal's number.
+    pub number: u64,
+    /// The bytes written to the output, or with 15 those needed.
+    pub length: u64,
+    /// The entries written to the list, or with 16 those needed.
+    pub entries: u64,
+}
+
 /// The answer of reading a measure sheet: 0 or a refusal's number, reading's place,
 /// words and bytes missing; then the sheet, which is all 0 with any number but 0.
 #[derive(Clone, Copy, Debug, PartialEq, Eq)]
@@ -135,6 +148,17 @@ extern "C" {
         list: *mut u64,
         list_len: usize,
     ) -> Comparing;
+
+    /// Salvages a message into a lent output and lists the changes, three words an
+    /// entry, in a lent list.
+    pub fn msdtp_salvage(
+        message: *const u8,
+        message_len: usize,
+        output: *mut u8,
+        output_len: usize,
+        list: *mut u64,
+        list_len: usize,
+    ) -> Salvaging;
 
     /// Reads a message that is a measure sheet into a lent table.
     pub fn msdtp_measure_read(

@@ -1,7 +1,7 @@
 //! The crate and the C header agree: constants, version, words, the fields of
 //! the answers, the functions.
 
-use msdtp::sys::{Comparing, MeasureReading, Normalising, Reading, Writing};
+use msdtp::sys::{Comparing, MeasureReading, Normalising, Reading, Salvaging, Writing};
 use msdtp::{kinds, numbers, sys, Refused};
 use std::collections::BTreeMap;
 use std::mem::{offset_of, size_of};
@@ -43,7 +43,7 @@ fn constants() -> BTreeMap<&'static str, String> {
         .collect()
 }
 
-const SIZES: [(&str, usize); 12] = [
+const SIZES: [(&str, usize); 14] = [
     ("BYTE_LIMIT", msdtp::BYTE_LIMIT),
     ("ROW_LIMIT", msdtp::ROW_LIMIT),
     ("WORD_LIMIT", msdtp::WORD_LIMIT),
@@ -51,9 +51,11 @@ const SIZES: [(&str, usize); 12] = [
     ("HEADER_WORDS", msdtp::HEADER_WORDS),
     ("ROW_WORDS", msdtp::ROW_WORDS),
     ("DIFFERENCE_WORDS", msdtp::DIFFERENCE_WORDS),
+    ("CHANGE_WORDS", msdtp::CHANGE_WORDS),
     ("TABLE_WORDS", msdtp::TABLE_WORDS),
     ("OUTPUT_BYTES", msdtp::OUTPUT_BYTES),
     ("LIST_WORDS", msdtp::LIST_WORDS),
+    ("SALVAGE_WORDS", msdtp::SALVAGE_WORDS),
     ("SHEET_WORDS", msdtp::SHEET_WORDS),
     ("SHEET_BYTES", msdtp::SHEET_BYTES),
 ];
@@ -186,6 +188,10 @@ fn the_fields_are_those_of_the_header() {
     assert_eq!(
         fields(&header, "msdtp_comparing"),
         fields_of!(Comparing: number, entries)
+    );
+    assert_eq!(
+        fields(&header, "msdtp_salvaging"),
+        fields_of!(Salvaging: number, length, entries)
     );
     let mut sheet = fields_of!(
         MeasureReading: number, place, words, missing, order, unit, chest, waist, sleeve,

@@ -2,7 +2,7 @@
 
 mod tables;
 
-use msdtp::{compare, measure_read, measure_write, normalise, read, rows, write};
+use msdtp::{compare, measure_read, measure_write, normalise, read, rows, salvage, write};
 use msdtp::{Normalised, Read, Refused, Row, Sheet, Unit};
 use msdtp::{OUTPUT_BYTES, SHEET_BYTES, TABLE_WORDS};
 use tables::{table_of_bits, table_of_boxes};
@@ -112,6 +112,25 @@ fn comparing_gives_12_and_16() {
     }
 }
 
+#[test]
+fn salvaging_gives_1_10_15_and_16() {
+    let cases: [(&[u8], usize, usize, u64, usize); 5] = [
+        (&[0xFF; 65_537], 0, 0, 1, 0),
+        (&[0x81; 16_385], OUTPUT_BYTES, 0, 10, 0),
+        (&[0x81; 16_385], 16_384, 0, 15, 16_385),
+        (&[0x81, 0xF1, 0x00], 1, 2, 15, 2),
+        (&[0x81, 0xF1, 0x00], 2, 2, 16, 1),
+    ];
+    for (message, bytes, words, number, needed) in cases {
+        let (mut output, mut list) = (vec![7; bytes], vec![7; words]);
+        let refused = salvage(message, &mut output, &mut list).unwrap_err();
+        assert_eq!((refused.number, refused.needed), (number, needed));
+        assert_eq!((refused.place, refused.words, refused.missing), (0, 0, 0));
+        assert!(output.iter().all(|&byte| byte == 7), "{refused}");
+        assert!(list.iter().all(|&word| word == 7), "{refused}");
+    }
+}
+
 /// The sheet of order 0 with figures of one byte each.
 fn small_sheet(chest: u8) -> [u8; 9] {
     [0xC3, 0x07, 0x8C, 0x81, 0x80, 0xF8, chest, 0x82, 0x83]
@@ -195,6 +214,13 @@ fn all_give_0() {
     let mut list = [7; 2];
     assert_eq!(compare(&table, &table, &mut list).map(|it| it.len()), Ok(0));
     assert_eq!(list, [7; 2]);
+    let salvaged = salvage(&message, &mut output, &mut list).expect("sound");
+    assert_eq!(
+        (salvaged.length, salvaged.changes.len()),
+        (message.len(), 0)
+    );
+    assert_eq!(output[..message.len()], message);
+    assert_eq!(list, [7; 2]);
 }
 
 #[test]
@@ -206,6 +232,8 @@ fn empty_slices() {
     assert_eq!(write(&[], &mut []).unwrap_err().number, 12);
     assert_eq!(rows(&[]).next(), None);
     assert_eq!(compare(&[], &[], &mut []).unwrap_err().number, 12);
+    let nothing = salvage(&[], &mut [], &mut []).expect("nothing");
+    assert_eq!((nothing.length, nothing.changes.len()), (0, 0));
     let refused = measure_read(&[], &mut []).unwrap_err();
     assert_eq!((refused.number, refused.needed), (11, 4));
 
@@ -248,6 +276,30 @@ fn refusals_are_errors_in_words() {
     assert_eq!(
         compare(&table, &[], &mut []).unwrap_err().to_string(),
         "refused 12: what was given is no table of items"
+    );
+}
+
+#[test]
+fn refusals_of_salvaging_in_words() {
+    let told = |message: &[u8], bytes: usize| {
+        let refused = salvage(message, &mut vec![0; bytes], &mut []);
+        refused.unwrap_err().to_string()
+    };
+    assert_eq!(
+        told(&[0xFF; 65_537], 0),
+        "refused 1 at 0: the message is longer than 65,536 bytes"
+    );
+    assert_eq!(
+        told(&[0x81; 16_385], 16_385),
+        "refused 10 at 0: more than 16,384 rows, or more than 16,384 words of bits and strings"
+    );
+    assert_eq!(
+        told(&[0xF1, 0x00], 0),
+        "refused 15: the output that was lent is too short; bytes needed: 1"
+    );
+    assert_eq!(
+        told(&[0xF1, 0x00], 1),
+        "refused 16: the list that was lent is too short; entries needed: 1"
     );
 }
 

@@ -68,7 +68,7 @@ extent-grown (fixedly k) s t = refl
 extent-grown by-size s t = size-grown s t
 
 -- one that is told within s is told so by s alone
-extent-less : (m : Measure) (s t : List ℕ) (h n : ℕ) → measured m (s ++ t) ≡ O.size h n → h ≤ length s → measured m s ≡ O.size h n
+pub extent-less : (m : Measure) (s t : List ℕ) (h n : ℕ) → measured m (s ++ t) ≡ O.size h n → h ≤ length s → measured m s ≡ O.size h n
 extent-less m s t h n q l = go (measured m s) (extent-fits m s) (subst (SizeGrown (length s) (length t) (measured m s)) q (extent-grown m s t))
   where
     go : (z : O.Size) → Fits s z → SizeGrown (length s) (length t) z (O.size h n) → z ≡ O.size h n

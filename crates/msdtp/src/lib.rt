@@ -1,5 +1,5 @@
-// The public operations for C, as declared in include/msdtp.h. Each is the operation of the crate message, compare or measure, with
-// its contract.
+// The public operations for C, as declared in include/msdtp.h. Each is the operation of the crate message, compare, measure or
+// salvage, with its contract.
 ghost use mathlib.Core.Path.{_≡_};
 ghost use Rattle.format.specs.Answers.{reading, writing, normalising};
 ghost use Rattle.message.specs.Told.{readTold, writeTold, normaliseTold};
@@ -7,11 +7,14 @@ ghost use Rattle.compare.specs.Differences.{comparing};
 ghost use Rattle.compare.specs.Told.{compareTold};
 ghost use Rattle.measure.specs.Sheets.{measuring, measureWriting};
 ghost use Rattle.measure.specs.Told.{measureTold};
+ghost use Rattle.salvage.specs.Mending.{salvaging};
+ghost use Rattle.salvage.specs.Told.{salvageTold};
 use compare::Comparing;
 use measure::Measuring;
 use message::Normalising;
 use message::Reading;
 use message::Writing;
+use salvage::Salvaging;
 
 #[no_mangle]
 pub extern "C" fn msdtp_read(message: &[u8], table: &mut [u64]) -> Reading
@@ -64,4 +67,11 @@ pub extern "C" fn msdtp_measure_write(
     ensures { λ r. ⌜ writeTold r (now (output .exit)) ≡ measureWriting order unit chest waist sleeve (now (output .entry)) ⌝ }
 {
     measure::write(order, unit, chest, waist, sleeve, output)
+}
+
+#[no_mangle]
+pub extern "C" fn msdtp_salvage(message: &[u8], output: &mut [u8], list: &mut [u64]) -> Salvaging
+    ensures { λ r. ⌜ salvageTold r (now (output .exit)) (now (list .exit)) ≡ salvaging (now (message .entry)) (now (output .entry)) (now (list .entry)) ⌝ }
+{
+    salvage::salvage(message, output, list)
 }

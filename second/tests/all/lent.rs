@@ -1,6 +1,6 @@
 //! Lent room that is filled beforehand, so that every change shows.
 
-use second::{Comparing, MeasureReading, Normalising, Reading, Writing};
+use second::{Comparing, MeasureReading, Normalising, Reading, Salvaging, Writing};
 
 fn poison(at: usize) -> u64 {
     (at as u64 + 7).wrapping_mul(0xD6E8_FEB8_6659_FD93)
@@ -117,4 +117,26 @@ pub fn measure_write(
     assert!(output[used..] == bytes(lent)[used..], "stray bytes");
     output.truncate(used);
     (writing, output)
+}
+
+/// Salvages with so many bytes and words lent. Answers the bytes written and the words
+/// listed; all others must be as they were.
+pub fn salvage(
+    message: &[u8],
+    lent_bytes: usize,
+    lent_words: usize,
+) -> (Salvaging, Vec<u8>, Vec<u64>) {
+    let mut output = bytes(lent_bytes);
+    let mut list = words(lent_words);
+    let answer = second::salvage(message, &mut output, &mut list);
+    let (written, listed) = match answer.number {
+        0 => (answer.length as usize, 3 * answer.entries as usize),
+        _ => (0, 0),
+    };
+    let stray = output[written..] != bytes(lent_bytes)[written..];
+    assert!(!stray, "stray bytes");
+    assert!(list[listed..] == words(lent_words)[listed..], "stray words");
+    output.truncate(written);
+    list.truncate(listed);
+    (answer, output, list)
 }

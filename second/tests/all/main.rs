@@ -1,6 +1,7 @@
 //! The tests of the second program, as one crate.
 
 mod agreement;
+mod batches;
 mod chance;
 mod comparing;
 mod comparing_deep;
@@ -18,6 +19,8 @@ mod objects_within;
 mod plain;
 mod random;
 mod requests;
+mod salvage_vectors;
+mod salvaging;
 mod sheet_vectors;
 mod sheets;
 mod small_tables;

@@ -4,7 +4,7 @@ use second::command::answer;
 use std::io::Write;
 use std::process::{Command, Stdio};
 
-const ANSWERS: [(&str, &str); 31] = [
+const ANSWERS: [(&str, &str); 36] = [
     (
         "read C203818283 20",
         "number 0 place 0 words 16 missing 0 stray 0 table 4 1 16 0 7 3 3 1 0 1 1 0 2 1 0 3",
@@ -110,6 +110,26 @@ const ANSWERS: [(&str, &str); 31] = [
         "number 22 length 0 stray 0 output -",
     ),
     (
+        "salvage 81FFC3018782C20482 9 9",
+        "number 0 length 4 entries 2 stray 0 output 81FFFE82 list 2 3 9 6 3 2",
+    ),
+    (
+        "salvage 81FFC3018782C20482 3 9",
+        "number 15 length 4 entries 0 stray 0 output - list",
+    ),
+    (
+        "salvage 81FFC3018782C20482 4 5",
+        "number 16 length 0 entries 2 stray 0 output - list",
+    ),
+    (
+        "salvage C0 0 3",
+        "number 0 length 0 entries 1 stray 0 output - list 0 1 4",
+    ),
+    (
+        "salvage - 4 4",
+        "number 0 length 0 entries 0 stray 0 output - list",
+    ),
+    (
         "list C602C845",
         r"text accepted 1 items 1 rows\n0 STRING 2 72 69\n",
     ),
@@ -159,6 +179,11 @@ fn what_is_no_request_is_answered_with_help() {
         "measure_write 9 9223372036854775808 0 5 6 7",
         "measure_write 9 7 -1 5 6 7",
         "measure_write 9 7 0 5 6 EMPTY",
+        "salvage C2",
+        "salvage C2 4",
+        "salvage C2 4 4 4",
+        "salvage C 4 4",
+        "salvage C2 4 -1",
         "list",
         "list C2 C2",
     ];

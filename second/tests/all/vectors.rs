@@ -3,7 +3,7 @@
 use crate::notation::{blocks, Block};
 use crate::plain::differences::{differences, Entry};
 use crate::plain::{forms, messages, tables};
-use crate::{item_notation, lent, sheet_vectors};
+use crate::{item_notation, lent, salvage_vectors, salvaging, sheet_vectors};
 use second::{Comparing, Normalising, Reading, Writing};
 use std::collections::BTreeSet;
 use std::path::Path;
@@ -13,14 +13,14 @@ pub const AMPLE_BYTES: usize = 65_536;
 const AMPLE_LIST: usize = 32_768;
 
 /// All the vectors, and how many of them have each key.
-const ALL: usize = 2_772;
-const KEYS: [(&str, usize); 24] = [
+const ALL: usize = 3_480;
+const KEYS: [(&str, usize); 29] = [
     ("message", 1_452),
-    ("lent", 84),
+    ("lent", 172),
     ("read", 1_452),
     ("items", 472),
     ("table", 639),
-    ("room", 160),
+    ("room", 233),
     ("normalise", 44),
     ("normal", 577),
     ("list", 45),
@@ -39,6 +39,11 @@ const KEYS: [(&str, usize); 24] = [
     ("unit", 275),
     ("figures", 275),
     ("micrometres", 149),
+    ("batch", 708),
+    ("salvage", 708),
+    ("mended", 534),
+    ("changes", 530),
+    ("needs", 27),
 ];
 
 #[test]
@@ -55,6 +60,8 @@ fn every_vector_holds() {
             numbers.insert(sheet_vectors::run_reading(name, block));
         } else if block.value("measure_write").is_some() {
             numbers.insert(sheet_vectors::run_writing(name, block));
+        } else if block.value("salvage").is_some() {
+            numbers.insert(salvage_vectors::run(name, block));
         } else if block.value("compare").is_some() {
             run_comparing(name, block, &mut numbers);
         } else if block.value("write").is_some() {
@@ -116,6 +123,7 @@ fn run_reading(name: &str, block: &Block, numbers: &mut BTreeSet<u64>) {
     }
     run_items(name, block, &message, &table);
     run_normalising(name, block, &message, reading, numbers);
+    salvaging::of_reading(&message, &messages::items(&message));
 }
 
 /// The items of a vector give its table and normal form by the plain reading.

@@ -2,7 +2,7 @@
 //! this package is here.
 
 use msdtp::sys;
-use second::{Comparing, MeasureReading, Normalising, Reading, Writing};
+use second::{Comparing, MeasureReading, Normalising, Reading, Salvaging, Writing};
 
 /// How an empty slice is passed: as null, or by the pointer that it has.
 #[derive(Clone, Copy, Debug, PartialEq, Eq)]
@@ -89,6 +89,23 @@ pub fn compare(left: &[u64], right: &[u64], list: &mut [u64], empty: Empty) -> C
     let answer = unsafe { sys::msdtp_compare(these, left.len(), those, right.len(), to, words) };
     Comparing {
         number: answer.number,
+        entries: answer.entries,
+    }
+}
+
+/// Mends a message into a lent output, and lists the changes in a lent list, three
+/// words an entry.
+pub fn salvage(message: &[u8], output: &mut [u8], list: &mut [u64], empty: Empty) -> Salvaging {
+    let (bytes, words) = (output.len(), list.len());
+    let from = pointer(message, empty);
+    let to = pointer_mut(output, empty);
+    let changes = pointer_mut(list, empty);
+    // All slices live through the call; the output and the list are borrowed for it
+    // alone.
+    let answer = unsafe { sys::msdtp_salvage(from, message.len(), to, bytes, changes, words) };
+    Salvaging {
+        number: answer.number,
+        length: answer.length,
         entries: answer.entries,
     }
 }

@@ -130,7 +130,7 @@ fn sized(
 
 /// Where the contents of the object at `at` begin and end, whether or not they
 /// are there. Of a size field that is not all there only its own end is known.
-fn contents(within: &[u8], at: usize) -> (usize, usize) {
+pub fn contents(within: &[u8], at: usize) -> (usize, usize) {
     let after_first = at + 2;
     let Some(&first) = within.get(at + 1) else {
         return (after_first, after_first);

@@ -5,5 +5,6 @@ pub mod differences;
 pub mod forms;
 pub mod items;
 pub mod messages;
+pub mod salvage;
 pub mod sheets;
 pub mod tables;

@@ -13,7 +13,7 @@ pub struct Checker {
     given: Pair<u64>,
     /// The second of two tables that are compared.
     other: Pair<u64>,
-    /// The table to read into, or the list of differences.
+    /// The table to read into, or the list of differences or changes.
     table: Pair<u64>,
     output: Pair<u8>,
     pub calls: u64,
@@ -206,6 +206,25 @@ impl Checker {
                 let lent = format!("{words} words and {bytes} bytes lent");
                 let head = format!("\nnormalising, {lent}, empty slices {empty:?}");
                 format!("{head}\nmessage {}\n", told::bytes(message))
+            });
+        }
+        answer
+    }
+
+    /// Salvages, with an output of so many bytes and a list of so many words lent.
+    pub fn salvaging(&mut self, message: &[u8], bytes: usize, words: usize) -> second::Salvaging {
+        let (list, output) = (&mut self.table.second, &mut self.output.second);
+        let expected = second::salvage(message, output.room(bytes), list.room(words));
+        give(&mut self.message, message);
+        let mut answer = expected;
+        for &empty in ways(message.is_empty() || bytes == 0 || words == 0) {
+            let (list, output) = (&mut self.table.library, &mut self.output.library);
+            let from = self.message.library.lent();
+            answer = library::salvage(from, output.room(bytes), list.room(words), empty);
+            self.compare(&answer, &expected, || {
+                let lent = format!("{bytes} bytes and {words} words lent");
+                let head = format!("\nsalvaging, {lent}, empty slices {empty:?}");
+                format!("{head}\nbatch {}\n", told::bytes(message))
             });
         }
         answer

@@ -3,7 +3,7 @@
 //! numbers.
 
 use crate::checker::Checker;
-use crate::comparing::{must_list, Entry};
+use crate::comparing::must_list;
 use crate::pages::{message, refusal, tables};
 use crate::rooms::{AMPLE_BYTES, AMPLE_WORDS};
 use crate::small_stack::in_both_stacks;
@@ -74,16 +74,17 @@ fn the_worked_examples() {
     });
 }
 
-/// The entries that a cell tells: none, or each in parentheses.
-fn entries(cell: &str) -> Vec<Entry> {
+/// The entries that a cell tells, of so many words: none, or each in parentheses.
+pub fn entries<const WORDS: usize>(cell: &str) -> Vec<[u64; WORDS]> {
     let Some(inner) = cell.strip_prefix('(') else {
         assert_eq!(cell, "none");
         return vec![];
     };
     let inner = inner.strip_suffix(')').expect("a closing parenthesis");
-    let entry = |pair: &str| {
-        let (left, right) = pair.split_once(", ").expect("two rows");
-        [left, right].map(|row| row.parse().expect("a row"))
+    let entry = |words: &str| -> [u64; WORDS] {
+        let words = words.split(", ").map(|word| word.parse().expect("a word"));
+        let words: Vec<u64> = words.collect();
+        words.try_into().expect("the words of an entry")
     };
     inner.split(") (").map(entry).collect()
 }

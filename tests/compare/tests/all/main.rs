@@ -20,6 +20,8 @@ mod told;
 mod vector_files;
 
 // What is shared with the program that counts instructions.
+#[path = "../../src/bin/linear/hostile_batches.rs"]
+mod hostile_batches;
 #[path = "../../src/bin/linear/hostile_pairs.rs"]
 mod hostile_pairs;
 #[path = "../../src/bin/linear/hostile_sheets.rs"]
@@ -28,6 +30,8 @@ mod hostile_sheets;
 mod hostile_tables;
 
 // What is shared with the tests of the second program.
+#[path = "../../../../second/tests/all/batches.rs"]
+mod batches;
 #[allow(dead_code)]
 #[path = "../../../../second/tests/all/chance.rs"]
 mod chance;
@@ -71,6 +75,12 @@ mod measuring_limits;
 mod measuring_sheets;
 mod measuring_written;
 
+mod salvaging;
+mod salvaging_batches;
+mod salvaging_changed;
+mod salvaging_limits;
+mod salvaging_rules;
+
 mod cuts;
 mod cuts_of_objects;
 mod format_page;
@@ -83,6 +93,7 @@ mod missing_sizes;
 mod one_call;
 mod one_call_changed;
 mod refusals_page;
+mod salvage_page;
 mod sheets_page;
 mod stretches;
 mod strings;

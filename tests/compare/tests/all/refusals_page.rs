@@ -6,7 +6,7 @@ use crate::checker::Checker;
 use crate::every::every_run;
 use crate::objects;
 use crate::pages::{self, in_backticks, message, refusal};
-use crate::rooms::{AMPLE_BYTES, AMPLE_WORDS};
+use crate::rooms::{AMPLE_BYTES, AMPLE_WORDS, MORE};
 use crate::small_stack::{in_both_stacks, report};
 use crate::tables::{chain, table};
 use crate::told;
@@ -14,7 +14,8 @@ use compare::library::{self, Empty};
 use std::collections::{BTreeMap, BTreeSet};
 
 /// The last number of the operations that are held to the page here. Those of measure
-/// sheets are held to it in `sheets_page`.
+/// sheets are held to it in `sheets_page`, and the numbers of changes in
+/// `salvage_page`.
 pub const LAST: u64 = 16;
 
 /// A row of the page: the number, which is 0 for EMPTY, its name, and the cells
@@ -303,6 +304,10 @@ fn message_gets(checker: &mut Checker, got: &mut Numbers, message: &[u8], lent: 
     for room in [AMPLE_BYTES, 0] {
         let answer = checker.normalising(message, lent, room);
         get("normalising", answer.number);
+    }
+    for (bytes, words) in [(AMPLE_BYTES, MORE), (AMPLE_BYTES, 0), (0, 0)] {
+        let answer = checker.salvaging(message, bytes, words);
+        get("salvaging", answer.number);
     }
     get("sheetlist", listed(message));
 }

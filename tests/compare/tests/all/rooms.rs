@@ -9,6 +9,8 @@ pub const AMPLE_WORDS: usize = 65_540;
 pub const AMPLE_BYTES: usize = 65_536;
 /// Enough for every list of differences.
 pub const AMPLE_LIST: usize = 32_768;
+/// Enough for every list of changes.
+pub const AMPLE_CHANGES: usize = 98_304;
 /// Added to what is needed, or lent where a refusal is due at once.
 pub const MORE: usize = 40;
 
@@ -29,6 +31,33 @@ pub fn list_rooms(entries: u64) -> Vec<usize> {
         2 => vec![2 + MORE, 0, 1, 2, 3],
         _ => vec![words + MORE, 0, 1, words - 2, words - 1, words, words + 1],
     }
+}
+
+/// The bytes of an output and the words of a list to try, by the bytes and entries
+/// needed: ample, none, exactly enough, of each a byte, a word, two and an entry less,
+/// with words left over, and both too short.
+pub fn salvage_rooms(length: usize, entries: usize) -> Vec<(usize, usize)> {
+    let words = 3 * entries;
+    let mut rooms = vec![
+        (length + MORE, words + MORE),
+        (0, 0),
+        (length, words),
+        (length, words + 1),
+        (length + 1, words + 2),
+    ];
+    if length > 0 {
+        rooms.extend([(length - 1, words), (0, words + MORE)]);
+    }
+    if entries > 0 {
+        let short = [
+            (length, words - 1),
+            (length, words - 2),
+            (length, words - 3),
+        ];
+        rooms.extend(short);
+        rooms.extend([(length + MORE, 0), (length.saturating_sub(1), words - 1)]);
+    }
+    rooms
 }
 
 impl Checker {

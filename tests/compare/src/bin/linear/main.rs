@@ -1,10 +1,13 @@
 //! Makes one call of the library for each operation and each hostile message,
-//! table, pair of tables or measure sheet, in two sizes, for a tool that counts
-//! the instructions of `counted_call`. To ask is to write with an empty output,
-//! to count is to compare with an empty list, and to measure is to read a measure
-//! sheet. Prints a line for each call: the
-//! operation, the shape, the size, and the bytes and words lent, used or written.
+//! table, pair of tables, measure sheet or batch, in two sizes, for a tool that
+//! counts the instructions of `counted_call`. To ask is to write with an empty
+//! output, to count is to compare with an empty list, to measure is to read a
+//! measure sheet, and to survey is to salvage with an empty output and list. Prints a
+//! line for each call: the operation, the shape, the size, and the bytes and words
+//! lent, used or written.
 
+#[allow(dead_code)]
+mod hostile_batches;
 #[allow(dead_code)]
 mod hostile_pairs;
 mod hostile_sheets;
@@ -26,7 +29,7 @@ mod plain;
 #[path = "../../../tests/all/tables.rs"]
 mod tables;
 
-use compare::library::{compare, measure_read, normalise, read, write, Empty};
+use compare::library::{compare, measure_read, normalise, read, salvage, write, Empty};
 use hostile_messages::Size;
 use std::hint::black_box;
 
@@ -88,6 +91,17 @@ fn measure_call(lent: &mut Lent) -> u64 {
     }
 }
 
+fn salvage_call(lent: &mut Lent) -> u64 {
+    let answer = salvage(&lent.message, &mut lent.output, &mut lent.list, EMPTY);
+    answer.length + 3 * answer.entries
+}
+
+/// A message is surveyed: what is needed is told, and nothing is written.
+fn survey_call(lent: &mut Lent) -> u64 {
+    black_box(salvage(&lent.message, &mut [], &mut [], EMPTY));
+    0
+}
+
 /// One call, by the name that the tool is given.
 #[no_mangle]
 #[inline(never)]
@@ -112,13 +126,14 @@ fn main() {
         other: Vec::new(),
         table: vec![0; 65_540],
         output: vec![0; 65_536],
-        list: vec![0; 32_768],
+        list: vec![0; 98_304],
     };
     for size in [Size::Quarter, Size::Whole] {
         of_messages(size, &mut lent);
         of_tables(size, &mut lent);
         of_pairs(size, &mut lent);
         of_sheets(size, &mut lent);
+        of_batches(size, &mut lent);
     }
 }
 
@@ -127,8 +142,20 @@ fn of_messages(size: Size, lent: &mut Lent) {
         lent.message = hostile.message;
         line("read", read_call, hostile.name, size, lent);
         line("normalise", normalise_call, hostile.name, size, lent);
+        damage_in_front(&mut lent.message);
+        line("salvage", salvage_call, hostile.name, size, lent);
     }
     lent.message.clear();
+}
+
+/// Puts an object in front that is replaced, where there is room for it. So a message
+/// is gone through object by object in both sizes, though a quarter of it would be
+/// accepted as it is.
+fn damage_in_front(message: &mut Vec<u8>) {
+    const BAD_BITS: [u8; 2] = [0xF1, 0x00];
+    if message.len() + BAD_BITS.len() <= 65_536 {
+        message.splice(0..0, BAD_BITS);
+    }
 }
 
 fn of_tables(size: Size, lent: &mut Lent) {
@@ -157,6 +184,15 @@ fn of_sheets(size: Size, lent: &mut Lent) {
     for hostile in hostile_sheets::sheets(size) {
         lent.message = hostile.message;
         line("measure", measure_call, hostile.name, size, lent);
+    }
+    lent.message.clear();
+}
+
+fn of_batches(size: Size, lent: &mut Lent) {
+    for hostile in hostile_batches::batches(size) {
+        lent.message = hostile.batch;
+        line("salvage", salvage_call, hostile.name, size, lent);
+        line("survey", survey_call, hostile.name, size, lent);
     }
     lent.message.clear();
 }

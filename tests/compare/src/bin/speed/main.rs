@@ -1,12 +1,15 @@
 //! How long the library takes beside the second program, by kind of message, by
-//! pair of tables where two are compared, and by measure sheet.
+//! pair of tables where two are compared, by measure sheet, and by batch where one is
+//! salvaged.
 //!
 //! Both are run by turns in one run, and the shortest of many rounds counts. To
 //! ask is to write with an empty output lent, which tells the length.
 //! Buffers are lent as the call before left them. The floor is a plain loop
 //! that stores as many words as the table has or, where two tables are compared,
-//! compares their words or, where a measure sheet is written, stores its bytes.
+//! compares their words or, where a measure sheet is written or a batch salvaged,
+//! copies its bytes.
 
+mod batches;
 mod loads;
 mod measure;
 mod pairs;
@@ -29,6 +32,8 @@ enum Of {
     /// A message, read as a measure sheet.
     SheetToRead,
     SheetToWrite,
+    /// A message that is salvaged.
+    Batch,
 }
 
 /// An operation as both programs do it.
@@ -46,6 +51,7 @@ impl Operation {
             Of::TwoTables => pairs(),
             Of::SheetToRead => sheets::to_read(),
             Of::SheetToWrite => sheets::to_write(),
+            Of::Batch => batches::batches(),
             Of::Message | Of::Table => loads(),
         };
         let with_buffers = all.into_iter().map(|load| {
@@ -58,7 +64,7 @@ impl Operation {
     fn floor(&self) -> Call {
         match self.of {
             Of::TwoTables => compare_words,
-            Of::SheetToWrite => store_bytes,
+            Of::SheetToWrite | Of::Batch => store_bytes,
             _ => store_words,
         }
     }
@@ -69,7 +75,7 @@ const EMPTY: library::Empty = library::Empty::AsItIs;
 /// The words of a list that is always enough.
 const AMPLE_LIST: usize = 32_768;
 
-const OPERATIONS: [Operation; 7] = [
+const OPERATIONS: [Operation; 8] = [
     Operation {
         name: "read",
         of: Of::Message,
@@ -149,6 +155,18 @@ const OPERATIONS: [Operation; 7] = [
         },
         second: |lent| {
             black_box(lent.write_sheet());
+        },
+    },
+    Operation {
+        name: "salvage",
+        of: Of::Batch,
+        library: |lent| {
+            let (output, list) = (&mut lent.output, &mut lent.table);
+            black_box(library::salvage(&lent.message, output, list, EMPTY));
+        },
+        second: |lent| {
+            let (output, list) = (&mut lent.output, &mut lent.table);
+            black_box(second::salvage(black_box(&lent.message), output, list));
         },
     },
 ];

@@ -17,7 +17,7 @@ pub struct Buffers {
     pub given: Vec<u64>,
     /// The second of two tables.
     pub other: Vec<u64>,
-    /// The table to read into, or the list of differences.
+    /// The table to read into, or the list of differences or changes.
     pub table: Vec<u64>,
     pub output: Vec<u8>,
     /// A measure sheet to write.
@@ -96,7 +96,7 @@ pub fn store_words(lent: &mut Buffers) {
     black_box(&mut lent.table);
 }
 
-/// Stores the bytes of a measure sheet, as far as there is room.
+/// Copies the bytes of a measure sheet or a batch, as far as there is room.
 pub fn store_bytes(lent: &mut Buffers) {
     for (byte, stored) in lent.message.iter().zip(&mut lent.output) {
         *stored = *byte;
