@@ -49,7 +49,7 @@ negative_is v h l = to_z-of_z (negative_fits v h l) ∙ negative v h l
 
 -- ---- a number that one function hands to another
 pub handed : (y z : ℤ) → mag z < 2 ^ 63 → z ≡ y → to_z w64 (of_z w64 z) ≡ y
-handed y z f e = to_z-of_z (record { sfits = f }) ∙ e
+handed y z f e = to_z-of_z {w = w64} (record { sfits = f }) ∙ e
 
 pub handed_word : (y z : ℤ) (v : ℕ) → mag z < 2 ^ 63 → z ≡ y → v ≡ twos 8 (to_z w64 (of_z w64 z)) → v ≡ twos 8 y
 handed_word y z v f e ev = ev ∙ ap (twos 8) (handed y z f e)

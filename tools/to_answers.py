@@ -1,0 +1,424 @@
+#!/usr/bin/env python3
+"""Turns a crate's Proof.antt files, which walk the code by hand, into Invariants.antt and Answers.antt.
+
+usage: to_answers.py CRATE_FOLDER NAMES.json [FUNCTION..]
+
+NAMES.json is what `rt check --generated DIR --old-names` writes in the crate's folder. It reads each proofs/F/Proof.antt, writes the
+answers beside it, and removes the old file. What it does not know it leaves with a line `-- LEFT`; rt check says the rest.
+"""
+
+import json
+import os
+import re
+import sys
+
+WORD = r"[^\W\d][\w'\u2032\-]*"
+PATH = re.compile(r"(?<![\w.'\-])(" + WORD + r")((?:\.(?:" + WORD + r"|\d+))*)")
+DROPPED = re.compile(r"\.(Statement|Tie|Reads|Kinds)\b|\bborrow\.Fn\.|\.Lts-|\.Lts\b|\.\+\w+\.\{statement\}")
+
+
+def norm(name):
+    return name.replace("-", "_").lower()
+
+
+def bare(need):
+    """An old need's name with the words that port.py put before it taken off."""
+    n = norm(need)
+    for word in ("overflow_", "nonzero_", "bounds_"):
+        if n.startswith(word):
+            n = n[len(word):]
+    return n
+
+
+class Function:
+    def __init__(self, data):
+        self.places = {p[0]: p for p in data["places"]}
+        self.by_norm = {norm(p[0]): p[0] for p in data["places"]}
+        self.new_place = {p[0]: n for p, n in zip(data["places"], data["places_by_name"])}
+        self.arms = {p[0]: a for p, a in zip(data["places"], data["arms"])}
+        self.needs = data["needs"]
+        self.asked = data["asked_at"]
+        self.data = data
+
+    def place(self, name):
+        return self.by_norm.get(norm(name))
+
+    def need(self, text):
+        """The need that an old name speaks of: its index."""
+        for i, (old, new) in enumerate(self.needs):
+            if norm(old) == norm(text):
+                return i
+        for i, (old, new) in enumerate(self.needs):
+            if bare(old) == bare(text):
+                return i
+        for i, (old, new) in enumerate(self.needs):
+            if norm(new) == norm(text):
+                return i
+        return None
+
+    def above(self, place):
+        p = self.places[place][1]
+        return p if p else None
+
+
+def split_blocks(text):
+    """Top-level declarations with the comment lines above them. Lines of `module _ (t : ℕ) where` are laid out flat."""
+    lines, out, inside = text.split("\n"), [], False
+    for line in lines:
+        if re.match(r"module _ .* where$", line):
+            inside = True
+            continue
+        if inside and line and not line.startswith("  "):
+            inside = False
+        out.append(line[2:] if inside and line.startswith("  ") else line)
+    blocks, cur = [], []
+    for line in out:
+        is_start = line and not line[0].isspace() and not line.startswith("unfolding ")
+        if is_start:
+            m = re.match(r"(?:abbrev )?(?:unfoldable )?(?:pub )?(\+?[^\s:]+)(.*)", line)
+            is_same = False
+            if cur and not line.startswith("--"):
+                head = [l for l in cur if l and not l.startswith("--")]
+                if head:
+                    h = re.match(r"(?:abbrev )?(?:unfoldable )?(?:pub )?(\+?[^\s:]+)", head[0]).group(1)
+                    is_same = m and m.group(1) == h and not re.match(r"use\b", line)
+                else:
+                    is_same = True
+            if line.startswith("--") and cur and all(l.startswith("--") for l in cur if l):
+                is_same = True
+            if not is_same and cur:
+                blocks.append("\n".join(cur).rstrip())
+                cur = []
+        cur.append(line)
+    if cur:
+        blocks.append("\n".join(cur).rstrip())
+    return [b for b in blocks if b.strip()]
+
+
+class Body:
+    """Rewrites the paths of one declaration."""
+
+    def __init__(self, fn, place, need, helpers, own_new):
+        self.fn, self.need, self.helpers, self.own = fn, need, helpers, own_new
+        self.env = {"c": (place, [])}
+        self.left = []
+
+    def resolve(self, place, comps):
+        """The new path from the place, or ('place', p) where only a place is named."""
+        fn = self.fn
+        comps = list(comps)
+        while comps and comps[0] == "before":
+            up = fn.above(place)
+            if up is None:
+                self.left.append(f"no place above {place}")
+                return None
+            place, comps = up, comps[1:]
+        if not comps:
+            return ("place", place)
+        step = comps[0]
+        p = fn.places[place]
+        arm = fn.arms.get(place)
+        if arm:
+            best = None
+            for new, first, rest in arm[2]:
+                o = [norm(first)] + [norm(str(x)) for x in rest]
+                if [norm(x) for x in comps[:len(o)]] == o and o and (best is None or len(o) > len(best[1])):
+                    best = (new, o)
+            if best:
+                return ("path", [arm[0], best[0]] + comps[len(best[1]):])
+        old, new = p[2]
+        if old and norm(step) == norm(old):
+            return ("path", [new] + comps[1:])
+        if step in ("args", "requires", "ranges", "loop", "type_inv", "utf8"):
+            if step == "loop":
+                loop = p[2][1] if p[2][1] else "loop"
+                return ("path", [loop] + comps[1:])
+            return ("path", comps)
+        if step.startswith("loop"):
+            return ("path", [new] + comps[1:]) if new else ("path", comps)
+        self.left.append(f"{place}: {'.'.join(comps)} (step {old} -> {new}, arm {arm})")
+        return ("path", comps)
+
+    def value(self, var, tail, at):
+        place, start = self.env[var]
+        r = self.resolve(place, start + tail)
+        if r is None:
+            return var + "".join("." + t for t in tail)
+        kind, what = r
+        if kind == "path":
+            return ".".join(["c"] + what)
+        new = self.fn.new_place[what]
+        if self.need and what == self.env["c"][0]:
+            return "c" if not self.is_argument else f"(goal.at.{self.own} c).{new}"
+        if self.need:
+            return f"(goal.at.{self.own} c).{new}"
+        return "c" if what == self.env["c"][0] else f"(LEFT-place {new})"
+
+    def turn(self, text):
+        # a `let` of a place, or of a part below a step that is no value by itself, is written out where it is used
+        let = re.compile(r"(?m)^(\s*)let (" + WORD + r") = (" + WORD + r")((?:\.(?:" + WORD + r"|\d+))*) in( ?)(?=(\n|.))|(?<= )let (" + WORD + r") = (" + WORD + r")((?:\.(?:" + WORD + r"|\d+))*) in ")
+        out, pos = [], 0
+        while True:
+            m = re.compile(r"let (" + WORD + r") = (" + WORD + r")((?:\.(?:" + WORD + r"|\d+))*) in(\n\s*| )").search(text, pos)
+            if not m:
+                break
+            var, base, tail = m.group(1), m.group(2), [t for t in m.group(3).split(".") if t]
+            if base not in self.env:
+                pos = m.end()
+                continue
+            place, start = self.env[base]
+            comps = start + tail
+            rest = list(comps)
+            at = place
+            while rest and rest[0] == "before":
+                at, rest = self.fn.above(at), rest[1:]
+            if not rest:
+                self.env[var] = (at, [])
+            elif rest[-1] in ("given", "args") or (len(rest) <= 2 and rest[0] in ("loop",)) or re.match(r"^(given)$", rest[1] if len(rest) > 1 else ""):
+                self.env[var] = (at, rest)
+            else:
+                pos = m.end()
+                continue
+            text = text[:m.start()] + text[m.end():]
+            pos = m.start()
+
+        def one(m):
+            var, tail = m.group(1), [t for t in m.group(2).split(".") if t]
+            if var not in self.env or (var != "c" and not tail and self.env[var][1]):
+                return m.group()
+            before = text[:m.start()].rstrip()
+            self.is_argument = not tail and bool(re.search(r"(%s)$" % "|".join(map(re.escape, self.helpers)), before)) if self.helpers else False
+            return self.value(var, tail, m.start())
+
+        return PATH.sub(one, text)
+
+
+def body_of(block):
+    """Comment lines, signature, unfolding, clauses."""
+    lines = block.split("\n")
+    comments = []
+    while lines and lines[0].startswith("--"):
+        comments.append(lines.pop(0))
+    return comments, lines
+
+
+def convert(crate, path, names, report):
+    with open(path, encoding="utf-8") as it:
+        text = it.read()
+    folder = os.path.dirname(path)
+    inner = os.path.relpath(folder, os.path.join(crate, "proofs")).replace("/", ".")
+    name = os.path.basename(os.path.abspath(crate))
+    is_cycle = "+" in inner
+    base = f"Rattle-{name}-proofs.{inner}."
+    if is_cycle:
+        fns = {k[len(base) + 4:]: Function(v) for k, v in names.items() if k.startswith(base + "Lts-")}
+    else:
+        data = names.get(base + "Lts")
+        if data is None:
+            report.append(f"{path}: no names")
+            return
+        fns = {"": Function(data)}
+    blocks = split_blocks(text)
+    uses, answers, invariants, helpers = [], [], [], []
+    shown = []
+    for b in blocks:
+        comments, lines = body_of(b)
+        if not lines:
+            continue
+        first = lines[0]
+        if first.startswith("use "):
+            if not DROPPED.search(first):
+                uses.append(first)
+            continue
+        m = re.match(r"(?:abbrev )?(?:unfoldable )?(?:pub )?(\+?[^\s:]+)", first)
+        shown.append((m.group(1), comments, lines))
+
+    def member(sig):
+        """Which function a signature speaks of, and its need or place."""
+        m = re.search(r"\b([a-z][\w\-]*)-lts\.((?:Need-)?[\w'\-]+)", sig)
+        if m:
+            for f in fns:
+                if norm(f) == norm(m.group(1)):
+                    return f, m.group(2)
+        m = re.search(r"\btie\.((?:Need-)?[\w'\-]+)", sig)
+        if m:
+            return "", m.group(1)
+        return None, None
+
+    helper_names = []
+    for n, comments, lines in shown:
+        f, what = member("\n".join(lines[:3]) if not re.search(r"(tie|lts)\.", lines[0]) else lines[0])
+        if f is not None and what and not what.startswith("Need-") and not what.startswith(("Claims", "invariant", "decreases", "Invariant", "Measure")):
+            helper_names.append(n)
+    for n, comments, lines in shown:
+        sig = lines[0]
+        if n.endswith("-spec") or n.startswith("+"):
+            # the list: answers that stand in it
+            body = "\n".join(lines[1:])
+            for m in re.finditer(r"\((λ c(?: κs)?\. (.*?))\)\s+-- ([\w\-']+)", body, re.S):
+                if m.group(2).strip() in ("search rules",):
+                    continue
+                answers.append(("LIST", m.group(3), m.group(2)))
+            continue
+        f, what = member(sig)
+        if f is None:
+            f2, w2 = member("\n".join(lines))
+            helpers.append((n, comments, lines, f2, w2))
+            continue
+        if what.startswith("Need-"):
+            answers.append(("SIG", n, (f, what[5:], comments, lines)))
+        elif re.match(r"(?i)invariant|decreases|InvT|MeasureT", what):
+            invariants.append((n, f, what, comments, lines))
+        else:
+            helpers.append((n, comments, lines, f, what))
+
+    text_out, places_used = [], set()
+
+    def write_body(fn, need_i, place, new_name, comments, lines, old_name, is_need):
+        b = Body(fn, place, is_need, helper_names, new_name)
+        body = "\n".join(lines)
+        return b, body
+
+    done = []
+    for n, comments, lines, f, what in helpers:
+        if f is None or fns.get(f) is None or fns[f].place(what) is None:
+            if re.search(r"lts\.|-kinds|Claims|\btie\.", "\n".join(lines)):
+                continue
+            done.append("\n".join(comments + lines))
+            continue
+        fn = fns[f]
+        place = fn.place(what)
+        new = fn.new_place[place]
+        places_used.add((f, new))
+        b = Body(fn, place, False, helper_names, None)
+        t = "\n".join(lines)
+        t = re.sub(r"\(c : [^()]*(?:\([^()]*\))?[^()]*?(?:tie|lts)\.[\w'\-]+\)", f"(c : {f + '-' if is_cycle and f else ''}{new})", t, count=1)
+        t = b.turn(t)
+        done.append("\n".join(comments + [t]))
+        for l in b.left:
+            report.append(f"{path}: {n}: {l}")
+    names_seen = {}
+    for kind, n, rest in answers:
+        if kind == "LIST":
+            label, body = n, rest
+            f, fn = None, None
+            if is_cycle:
+                for k in sorted(fns, key=len, reverse=True):
+                    if norm(label).startswith(norm(k) + "_"):
+                        f, label = k, label[len(k) + 1:]
+                        break
+                if f is None:
+                    short = {norm(k).split("_")[-1]: k for k in fns}
+                    for k in short:
+                        if norm(label).startswith(k + "_"):
+                            f, label = short[k], label[len(k) + 1:]
+                            break
+                if f is None and len(fns) == 1:
+                    f = next(iter(fns))
+            else:
+                f = ""
+            if f is None:
+                report.append(f"{path}: list: which member is {label}?")
+                continue
+            fn = fns[f]
+            i = fn.need(label)
+            if i is None:
+                report.append(f"{path}: list: no need {label}: {body[:100]}")
+                continue
+            old, new = fn.needs[i]
+            place = fn.place(fn.asked[i][0])
+            comments, lines = [], None
+            t = body
+        else:
+            f, what, comments, lines = rest
+            fn = fns[f]
+            i = fn.need(what)
+            if i is None or what.split("-")[0] == "overflow":
+                j = fn.need(re.sub(r"^.*?(?=" + re.escape(n.split("-")[0]) + ")", "", n)) if False else None
+                i = i if i is not None else j
+            if i is None:
+                i = fn.need(n)
+            if i is None:
+                report.append(f"{path}: no need {what} ({n})")
+                done.append("-- LEFT " + "\n".join(lines))
+                continue
+            old, new = fn.needs[i]
+            place = fn.place(fn.asked[i][0])
+        full = f"{f}-{new}" if is_cycle else new
+        if full in names_seen:
+            report.append(f"{path}: twice {full}: {n} and {names_seen[full]}")
+        names_seen[full] = n
+        b = Body(fn, place, True, helper_names, full)
+        binder = "t c" if is_cycle else "c"
+        if lines is None:
+            done.append(f"pub {full} : goal.{full}\n{full} {binder} = {b.turn(t)}")
+        else:
+            unf = [l for l in lines[1:] if l.startswith("unfolding ")]
+            clause = [l for l in lines[1:] if not l.startswith("unfolding ")]
+            t = "\n".join(clause)
+            t = re.sub(r"^" + re.escape(n) + r" c( κs)? =", "@@ =", t)
+            head, eq, body = t.partition("=")
+            body = b.turn(body)
+            done.append("\n".join(comments + [f"pub {full} : goal.{full}"] + unf + [f"{full} {binder} ={body}"]))
+        for l in b.left:
+            report.append(f"{path}: {full}: {l}")
+    mod = f"Rattle.{name}.proofs.{inner}"
+    head = [c for c in text.split("\n") if c.startswith("--")][:0]
+    lead = []
+    for line in text.split("\n"):
+        if line.startswith("--"):
+            lead.append(line)
+        else:
+            break
+    out = lead + uses + [f"use {mod}.Goals as goal"]
+    if places_used:
+        out.append(f"use {mod}.Goals.{{" + ", ".join(sorted((f + '-' if is_cycle and f else '') + p for f, p in places_used)) + "}")
+    if done:
+        with open(os.path.join(folder, "Answers.antt"), "w", encoding="utf-8") as it:
+            it.write("\n".join(out) + "\n\n" + "\n\n".join(done) + "\n")
+    if invariants or re.search(r"(?m)^abbrev μ-", text):
+        inv = []
+        for n, f, what, comments, lines in invariants:
+            fn = fns[f]
+            t = "\n".join(lines[1:])
+            head, eq, body = t.partition(" =")
+            binders = head.split()[1:]
+            loop = re.sub(r"(?i)^(invariant|decreases|InvT|MeasureT)-", "", what)
+            is_inv = bool(re.match(r"(?i)inv", what))
+            info = fn.data["loops"]
+            new_loop = loop
+            for l in info if isinstance(info, list) else []:
+                if norm(l[0]) == norm(loop):
+                    new_loop = l[1]
+            word = ("invariant-" if is_inv else "decreases-") + (f"{f}-" if is_cycle else "") + new_loop
+            seen = {}
+            for x in binders:
+                key = re.sub(r"₀$", "", x)
+                if x.endswith("₀"):
+                    seen[x] = f"l.initial.{key}"
+                else:
+                    seen[x] = f"l.{key}"
+            body = re.sub(r"(?<![\w.'\-₀])(" + WORD + r"₀?)", lambda m: seen.get(m.group(1), m.group(1)), body)
+            inv.append("\n".join(comments + [f"abbrev pub {word} : goal.{word}", f"{word} l ={body}"]))
+        with open(os.path.join(folder, "Invariants.antt"), "w", encoding="utf-8") as it:
+            it.write("\n".join(uses + [f"use {mod}.Given as goal"]) + "\n\n" + "\n\n".join(inv) + "\n")
+    os.remove(path)
+
+
+def main():
+    crate, names = sys.argv[1], json.load(open(sys.argv[2]))
+    wanted = sys.argv[3:]
+    report = []
+    for folder, dirs, files in sorted(os.walk(os.path.join(crate, "proofs"))):
+        if "Proof.antt" in files and (not wanted or any(w in folder for w in wanted)):
+            try:
+                convert(crate, os.path.join(folder, "Proof.antt"), names, report)
+            except Exception as e:
+                report.append(f"{folder}: {type(e).__name__}: {e}")
+                import traceback
+                traceback.print_exc()
+    print("\n".join(report))
+
+
+if __name__ == "__main__":
+    main()
