@@ -1,5 +1,7 @@
 // Two tables side by side: what changed from the one to the other. The contract of `compare` is one equation with the meaning in
 // specs/Differences.antt: the answer, and every word of the lent list afterwards.
+#![tactic(auto)]
+
 ghost use Rattle.std.specs.Prelude.{◌≡◌, ◌≢◌, get_or};
 ghost use Rattle.compare.specs.Differences.{comparing};
 ghost use Rattle.compare.specs.Told.{compare_told};

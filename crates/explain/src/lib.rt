@@ -1,5 +1,7 @@
 // Tells why a message is refused: reading's answer, the containers open around the faulty object, and the evidence. The contract of
 // `explain` is one equation with the meaning in specs/Explanations.antt: the answer, and every word of the lent list afterwards.
+#![tactic(auto)]
+
 ghost use Rattle.std.specs.Prelude.{◌≡◌, ◌≤◌, min, length, take};
 ghost use Rattle.format.specs.Answers.{over};
 ghost use Rattle.format.specs.Refusals.{byte_limit};

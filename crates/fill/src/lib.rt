@@ -1,4 +1,6 @@
 // Lays out the table of a message that is accepted and has room: header, rows, data words. Nothing here refuses anything.
+#![tactic(auto)]
+
 ghost use Rattle.std.specs.Prelude.{◌≡◌, ◌+◌, ◌*◌, ◌≤◌, [], ◌∷◌, length};
 ghost use Rattle.format.specs.Messages.{outcome};
 ghost use Rattle.format.specs.Answers.{over};

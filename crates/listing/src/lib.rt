@@ -1,4 +1,6 @@
 // The lines that tell what a message says, or why it was refused.
+#![tactic(auto)]
+
 ghost use Rattle.std.specs.Prelude.{◌≤◌, ◌≡◌, length};
 ghost use Rattle.format.specs.Answers.{over};
 ghost use Rattle.format.specs.Tables.{items_of};

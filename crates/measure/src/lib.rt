@@ -1,5 +1,7 @@
 // The measure sheet itself: read from a message, and written as one. The contracts of `read` and `write` are one equation each with
 // the meaning in specs/Sheets.antt: the answer, and every lent word and byte afterwards.
+#![tactic(auto)]
+
 ghost use Rattle.std.specs.Prelude.{◌≡◌};
 ghost use Rattle.message.specs.Told.{write_told};
 ghost use Rattle.measure.specs.Sheets.{measuring, measure_writing};

@@ -1,5 +1,7 @@
 // The public operations on RFC 713 messages. Each contract is one equation with the meaning in the crate format
 // (specs/Answers.antt): the answer, and every lent word and byte afterwards.
+#![tactic(auto)]
+
 ghost use Rattle.std.specs.Prelude.{◌≡◌};
 ghost use Rattle.format.specs.Answers.{reading, writing, normalising};
 ghost use Rattle.message.specs.Told.{read_told, read_answer, fault_answer, write_told, normalise_told};

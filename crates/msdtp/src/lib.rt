@@ -1,5 +1,7 @@
 // The public operations for C, as declared in include/msdtp.h. Each is the operation of the crate message, compare, measure,
 // salvage or explain, with its contract.
+#![tactic(auto)]
+
 ghost use Rattle.std.specs.Prelude.{◌≡◌};
 ghost use Rattle.format.specs.Answers.{reading, writing, normalising};
 ghost use Rattle.message.specs.Told.{read_told, write_told, normalise_told};

@@ -1,5 +1,7 @@
 // Mends what can be mended of a batch: each outermost object is judged by itself. The contract of `salvage` is one equation with the
 // meaning in specs/Mending.antt: the answer, and every byte and word of the lent output and list afterwards.
+#![tactic(auto)]
+
 ghost use Rattle.std.specs.Prelude.{◌≡◌};
 ghost use Rattle.salvage.specs.Mending.{salvaging};
 ghost use Rattle.salvage.specs.Told.{answer_of, salvage_told};

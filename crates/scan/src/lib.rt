@@ -1,4 +1,6 @@
 // Checks a message and measures it. Nothing is laid out, and no table is touched.
+#![tactic(auto)]
+
 ghost use Rattle.std.specs.Prelude.{◌≡◌, ◌+◌, ◌≤◌, ◌<◌, length};
 ghost use Rattle.format.specs.Messages.{reads, outcome};
 ghost use Rattle.format.specs.Runs.{object_at};

@@ -1,5 +1,7 @@
 // Lists the message on standard input: one line for each item, or one line for a refusal. Where the input cannot be read to its
 // end, or the listing cannot be written, one line on standard error says so.
+#![tactic(auto)]
+
 mod input;
 
 use crate::input::Input;

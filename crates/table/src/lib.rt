@@ -1,4 +1,6 @@
 // Any words as a table: its rows by position, the data of a row, and whether the words are a table at all.
+#![tactic(auto)]
+
 pub mod judge;
 pub mod rows;
 pub mod words;

@@ -1,4 +1,6 @@
 // What stands at one object's type-byte, read from the bytes. Nothing here goes into contents.
+#![tactic(auto)]
+
 pub mod bits;
 pub mod head;
 pub mod integer;

@@ -1,4 +1,6 @@
 // The normal form of the items in a table: its length, and its bytes; or the number with which the table is refused.
+#![tactic(auto)]
+
 mod leaves;
 mod numbers;
 mod put;
