@@ -18,12 +18,24 @@ DROPPED = re.compile(r"\.(Statement|Tie|Reads|Kinds)\b|\bborrow\.Fn\.|\.Lts-|\.L
 
 
 def norm(name):
-    return name.replace("-", "_").lower()
+    name = name.replace("-", "_").lower()
+    return name[:-4] if name.endswith("_lem") else name
+
+
+# What port.py calls the needs of a loop.
+LOOP = [("_holds", "_init"), ("_again", "_preserved"), ("_less", "_smaller")]
+
+
+def respelt(need):
+    n = norm(need)
+    for old, new in LOOP:
+        n = re.sub(r"(loop\w*?)" + old + r"(?=$|_\d+$)", r"\1" + new, n)
+    return n
 
 
 def bare(need):
     """An old need's name with the words that port.py put before it taken off."""
-    n = norm(need)
+    n = respelt(need)
     for word in ("overflow_", "nonzero_", "bounds_"):
         if n.startswith(word):
             n = n[len(word):]
@@ -36,6 +48,8 @@ class Function:
         self.by_norm = {norm(p[0]): p[0] for p in data["places"]}
         self.new_place = {p[0]: n for p, n in zip(data["places"], data["places_by_name"])}
         self.arms = {p[0]: a for p, a in zip(data["places"], data["arms"])}
+        self.typed = {p[0]: a for p, a in zip(data["places"], data["typed"])}
+        self.clauses = {p[0]: a for p, a in zip(data["places"], data["clauses"])}
         self.needs = data["needs"]
         self.asked = data["asked_at"]
         self.data = data
@@ -46,7 +60,7 @@ class Function:
     def need(self, text):
         """The need that an old name speaks of: its index."""
         for i, (old, new) in enumerate(self.needs):
-            if norm(old) == norm(text):
+            if norm(old) == respelt(text):
                 return i
         for i, (old, new) in enumerate(self.needs):
             if bare(old) == bare(text):
@@ -128,7 +142,17 @@ class Body:
                 return ("path", [arm[0], best[0]] + comps[len(best[1]):])
         old, new = p[2]
         if old and norm(step) == norm(old):
-            return ("path", [new] + comps[1:])
+            rest = comps[1:]
+            named = fn.clauses.get(place)
+            if rest[:1] == ["ensures"] and named:
+                rest = ["ensures"] + self.clause(rest[1:], named)
+            return ("path", [new] + rest)
+        typed = fn.typed.get(place) or []
+        for var, known in typed:
+            if norm(step).startswith(norm(known)) and comps[1:2] == ["given"]:
+                return ("path", ["type_inv", var] + comps[2:])
+        if step == "requires" and fn.data["pre"]:
+            comps = ["requires"] + self.clause(comps[1:], fn.data["pre"])
         if step in ("args", "requires", "ranges", "loop", "type_inv", "utf8"):
             if step == "loop":
                 loop = p[2][1] if p[2][1] else "loop"
@@ -139,6 +163,14 @@ class Body:
         self.left.append(f"{place}: {'.'.join(comps)} (step {old} -> {new}, arm {arm})")
         return ("path", comps)
 
+    def clause(self, comps, named):
+        """The parts of several clauses were a pair each; now they have names."""
+        for k, name in enumerate(named):
+            at = ["1"] * k + (["0"] if k < len(named) - 1 else [])
+            if comps[:len(at)] == at and (k == len(named) - 1 or comps[k] == "0"):
+                return [name] + comps[len(at):]
+        return comps
+
     def value(self, var, tail, at):
         place, start = self.env[var]
         r = self.resolve(place, start + tail)
@@ -146,7 +178,7 @@ class Body:
             return var + "".join("." + t for t in tail)
         kind, what = r
         if kind == "path":
-            return ".".join(["c"] + what)
+            return ".".join(["c"] + ["type_inv" if w == "type-inv" else w for w in what])
         new = self.fn.new_place[what]
         if self.need and what == self.env["c"][0]:
             return "c" if not self.is_argument else f"(goal.at.{self.own} c).{new}"
@@ -184,13 +216,17 @@ class Body:
 
         def one(m):
             var, tail = m.group(1), [t for t in m.group(2).split(".") if t]
-            if var not in self.env or (var != "c" and not tail and self.env[var][1]):
+            if var not in self.env:
                 return m.group()
             before = text[:m.start()].rstrip()
             self.is_argument = not tail and bool(re.search(r"(%s)$" % "|".join(map(re.escape, self.helpers)), before)) if self.helpers else False
             return self.value(var, tail, m.start())
 
-        return PATH.sub(one, text)
+        text = PATH.sub(one, text)
+        # what `.true` and `.false` of `!x` say is said of x itself now
+        text = text.replace(".type-inv", ".type_inv")
+        said = r"(?:held|yes_not) _ (c\.if-not-[\w\-]+\.(?:true|false))"
+        return re.sub(r"\b" + said, r"\1", re.sub(r"\(" + said + r"\)", r"\1", text))
 
 
 def body_of(block):
@@ -255,10 +291,16 @@ def convert(crate, path, names, report):
         if n.endswith("-spec") or n.startswith("+"):
             # the list: answers that stand in it
             body = "\n".join(lines[1:])
-            for m in re.finditer(r"\((λ c(?: κs)?\. (.*?))\)\s+-- ([\w\-']+)", body, re.S):
-                if m.group(2).strip() in ("search rules",):
+            for m in re.finditer(r"\(λ c(?: κs)?\.\s", body):
+                depth, at = 1, m.end()
+                while depth:
+                    depth += (body[at] == "(") - (body[at] == ")")
+                    at += 1
+                said = body[m.end():at - 1].strip()
+                label = re.match(r"\)*\s*-- ([\w\-']+)", body[at:])
+                if said == "search rules" or not label:
                     continue
-                answers.append(("LIST", m.group(3), m.group(2)))
+                answers.append(("LIST", label.group(1), said))
             continue
         f, what = member(sig)
         if f is None:
@@ -387,17 +429,16 @@ def convert(crate, path, names, report):
             is_inv = bool(re.match(r"(?i)inv", what))
             info = fn.data["loops"]
             new_loop = loop
-            for l in info if isinstance(info, list) else []:
-                if norm(l[0]) == norm(loop):
-                    new_loop = l[1]
+            fields = None
+            for l, changed in zip(info, fn.data["changed"]):
+                if norm(l[0][0]) == norm(loop) or len(info) == 1:
+                    new_loop = l[0][1]
+                    fields = [f"l.initial.{v}" if ch else f"l.{v}" for v, ch in zip(l[1], changed)] + [f"l.{v}" for v, ch in zip(l[1], changed) if ch]
             word = ("invariant-" if is_inv else "decreases-") + (f"{f}-" if is_cycle else "") + new_loop
-            seen = {}
-            for x in binders:
-                key = re.sub(r"₀$", "", x)
-                if x.endswith("₀"):
-                    seen[x] = f"l.initial.{key}"
-                else:
-                    seen[x] = f"l.{key}"
+            if fields is None or len(fields) != len(binders):
+                report.append(f"{path}: {n}: binders {binders} are not {fields}")
+                fields = ["l." + x for x in binders]
+            seen = dict(zip(binders, fields))
             body = re.sub(r"(?<![\w.'\-₀])(" + WORD + r"₀?)", lambda m: seen.get(m.group(1), m.group(1)), body)
             inv.append("\n".join(comments + [f"abbrev pub {word} : goal.{word}", f"{word} l ={body}"]))
         with open(os.path.join(folder, "Invariants.antt"), "w", encoding="utf-8") as it:

@@ -19,27 +19,6 @@ use Rattle.format.proofs.TypeBytes.{InClass, in_class, char_class, small_class}
 pub of_class : (b : ℕ) (c : Class) → c ≡ class_of b → InClass b c
 of_class b c e = subst (InClass b) (sym e) (in_class b)
 
--- ---- the branch of a match for all classes but some
-abbrev keep_if : Bool → ℕ → List ℕ → List ℕ
-keep_if true k ks = ks
-keep_if false k ks = k ∷ ks
-
-abbrev kept : List ℕ → List ℕ → List ℕ
-kept gone [] = []
-kept gone (k ∷ ks) = keep_if (has_key gone k) k (kept gone ks)
-
-abbrev tags : List Class → List ℕ
-tags [] = []
-tags (c ∷ cs) = tag_of the_type c ∷ tags cs
-
--- the tags of these classes left out of the fifteen
-abbrev pub besides : List Class → List ℕ
-besides cs = kept (tags cs) (0 ∷ 1 ∷ 2 ∷ 3 ∷ 4 ∷ 5 ∷ 6 ∷ 7 ∷ 8 ∷ 9 ∷ 10 ∷ 11 ∷ 12 ∷ 13 ∷ 14 ∷ [])
-
--- a class there is none of them
-pub apart : (cs : List Class) (c x : Class) → T (not (has_key (besides cs) (tag_of the_type x))) → OneOf (besides cs) (tag_of the_type c) → x ≡ c → ⊥
-apart cs c x m k e = miss (besides cs) (tag_of the_type x) m (subst (λ z. OneOf (besides cs) (tag_of the_type z)) (sym e) k)
-
 -- ---- the class of all bytes of a range
 pub within_class : (c : Class) (lo n : ℕ) → Each (λ k. class_of (lo + k) ≡ c) n → (b : ℕ) → lo ≤ b → b < lo + n → class_of b ≡ c
 within_class c lo n w b g h =
@@ -61,53 +40,51 @@ sbitstr_class_at = within_class C.Sbitstr 0xf0 8 (refl, (refl, (refl, (refl, (re
 pub record Tells (c : Class) (f : ℕ → ℕ) (x : ℕ) : Type 0 where
   gives : (b : ℕ) → b < 256 → InClass b c → f b ≡ x
   back : (b : ℕ) → f b ≡ x → class_of b ≡ c
-  lone : T (not (has_key (besides (c ∷ [])) (tag_of the_type c)))
 
 module _ {c : Class} {f : ℕ → ℕ} {x : ℕ} (t : Tells c f x) (b : ℕ) (r : Class) (e : r ≡ class_of b) where
   pub class_told : b < 256 → r ≡ c → true ≡ eqb (f b) x
   class_told h q = sym (eq_true (f b) x (t.gives b h (of_class b c (sym q ∙ e))))
 
-  pub class_not : OneOf (besides (c ∷ [])) (tag_of the_type r) → false ≡ eqb (f b) x
-  class_not k = sym (eq_false (f b) x (λ q. apart (c ∷ []) r c t.lone k (sym (e ∙ t.back b q))))
+  pub class_not : (r ≡ c → ⊥) → false ≡ eqb (f b) x
+  class_not k = sym (eq_false (f b) x (λ q. k (e ∙ t.back b q)))
 
 -- by the byte itself
-byte_tells : (c : Class) (x : ℕ) → ((b : ℕ) → b < 256 → InClass b c → b ≡ x) → class_of x ≡ c → T (not (has_key (besides (c ∷ [])) (tag_of the_type c))) → Tells c (λ b. b) x
-byte_tells c x g e l = record { gives = g; back = λ b q. ap class_of q ∙ e; lone = l }
+byte_tells : (c : Class) (x : ℕ) → ((b : ℕ) → b < 256 → InClass b c → b ≡ x) → class_of x ≡ c → Tells c (λ b. b) x
+byte_tells c x g e = record { gives = g; back = λ b q. ap class_of q ∙ e }
 
 pub struc_tells : Tells C.Struc (λ b. b) 0xc2
 unfolding class_of
-struc_tells = byte_tells C.Struc 0xc2 (λ b h e. e) refl tt
+struc_tells = byte_tells C.Struc 0xc2 (λ b h e. e) refl
 
 pub edt_tells : Tells C.Edt (λ b. b) 0xc3
 unfolding class_of
-edt_tells = byte_tells C.Edt 0xc3 (λ b h e. e) refl tt
+edt_tells = byte_tells C.Edt 0xc3 (λ b h e. e) refl
 
 pub repeat_tells : Tells C.Repeat (λ b. b) 0xc4
 unfolding class_of
-repeat_tells = byte_tells C.Repeat 0xc4 (λ b h e. e) refl tt
+repeat_tells = byte_tells C.Repeat 0xc4 (λ b h e. e) refl
 
 pub ustruc_tells : Tells C.Ustruc (λ b. b) 0xc5
 unfolding class_of
-ustruc_tells = byte_tells C.Ustruc 0xc5 (λ b h e. e) refl tt
+ustruc_tells = byte_tells C.Ustruc 0xc5 (λ b h e. e) refl
 
 pub string_tells : Tells C.String (λ b. b) 0xc6
 unfolding class_of
-string_tells = byte_tells C.String 0xc6 (λ b h e. e) refl tt
+string_tells = byte_tells C.String 0xc6 (λ b h e. e) refl
 
 pub padding_tells : Tells C.Padding (λ b. b) 0xff
 unfolding class_of
-padding_tells = byte_tells C.Padding 0xff (λ b h (e : 0xff ≤ b). omega arith) refl tt
+padding_tells = byte_tells C.Padding 0xff (λ b h (e : 0xff ≤ b). omega arith) refl
 
 -- by its high bits
 pub char_tells : Tells C.Char7 (λ b. b / 128) 0
-char_tells = record { gives = λ b h (e : b < 0x80). omega arith; back = λ b (q : b / 128 ≡ 0). char_class b (omega arith); lone = tt }
+char_tells = record { gives = λ b h (e : b < 0x80). omega arith; back = λ b (q : b / 128 ≡ 0). char_class b (omega arith) }
 
 pub sinteger_tells : Tells C.Sinteger (λ b. b / 64) 2
 sinteger_tells =
     record {
       gives = λ b h (e : (0x80 ≤ b) × (b < 0xc0)). omega arith;
       back = λ b (q : b / 64 ≡ 2). small_class_at b (omega arith) (omega arith);
-      lone = tt;
     }
 
 pub linteger_tells : Tells C.Linteger (λ b. b / 8) 0x1c
@@ -115,7 +92,6 @@ linteger_tells =
     record {
       gives = λ b h (e : (0xe0 ≤ b) × (b < 0xe8)). omega arith;
       back = λ b (q : b / 8 ≡ 0x1c). long_class_at b (omega arith) (omega arith);
-      lone = tt;
     }
 
 pub sbitstr_tells : Tells C.Sbitstr (λ b. b / 8) 0x1e
@@ -123,5 +99,4 @@ sbitstr_tells =
     record {
       gives = λ b h (e : (0xf0 ≤ b) × (b < 0xf8)). omega arith;
       back = λ b (q : b / 8 ≡ 0x1e). sbitstr_class_at b (omega arith) (omega arith);
-      lone = tt;
     }

@@ -1,0 +1,40 @@
+-- `head::sbitstr` meets its contract. Assumes nothing.
+use native.Mathlib.Omega.{arith}
+use mathlib.Core.Path.{ap, ◌∙◌}
+use Prim.Native.Nat.{◌-◌, ◌*◌, ◌<◌}
+use lib.ListN.{get_or}
+use Rattle.format.proofs.Digits.{bytes_of}
+use Rattle.format.proofs.OnesLaws.{zeros_ones}
+use Rattle.wire.proofs.Sbits.{zeros_few}
+use Rattle.format.specs.Objects.{head_by, sbitstr_head}
+use Rattle.wire.proofs.HeadLaws.{stopped, fixed_stop, sbitstr_bad, sbitstr_sbits}
+use borrow.Author.Rules.{rules}
+use Rattle.wire.proofs.head.sbitstr.Goals as goal
+
+pub returns-then-s-k : goal.returns-then-s-k
+unfolding head_by
+returns-then-s-k c =
+    let k = c.following_of-k in
+    fixed_stop c.args.depth c.args.b k.result c.args.s.now sbitstr_head c.past_end.result k.ensures.0 c.if-s-k.true c.past_end.ensures
+
+pub returns-then-first-eq0 : goal.returns-then-first-eq0
+returns-then-first-eq0 c =
+    let k = c.following_of-k in
+    stopped c.args.s.now _ c.here.result _ c.here.ensures
+    (sbitstr_bad c.args.depth c.args.b k.result c.args.s.now k.ensures.0 (omega arith) c.if-first-eq0.true)
+
+pub overflow_sub-n-2 : goal.overflow_sub-n-2
+overflow_sub-n-2 c =
+    let b = get_or c.args.s.now 0 0 in
+    let l : b < 256 = omega (arith, c.shared_slice_known-2-1.given 0) in
+    omega (arith, c.ones_of-zeros.ensures, zeros_ones b l, zeros_few b l c.if-first-eq0.false)
+
+pub returns : goal.returns
+returns c =
+    let s = c.args.s.now in
+    let k = c.following_of-k in
+    let l : get_or s 0 0 < 256 = omega (arith, c.shared_slice_known-2-1.given 0) in
+    sbitstr_sbits c.args.depth c.args.b k.result _ c.number.result c.unmarked.result s
+    (bytes_of s (λ i. omega (arith, c.shared_slice_known-1.given i))) k.ensures.0 (omega arith) c.if-first-eq0.false
+    (ap (λ n. 8 * k.result - 1 - n) (c.ones_of-zeros.ensures ∙ zeros_ones (get_or s 0 0) l))
+    c.number.ensures.0 c.unmarked.ensures.0 c.unmarked.ensures.1

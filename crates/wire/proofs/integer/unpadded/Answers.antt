@@ -1,0 +1,30 @@
+-- `integer::unpadded` meets its contract. Assumes nothing.
+use Prim.Native.Nat.{◌-◌, ◌≤◌}
+use mathlib.Core.Path.{◌≡◌}
+use native.Mathlib.Omega.{arith}
+use lib.ListN.{length, drop}
+use Rattle.format.specs.Objects.{leading}
+use Rattle.wire.specs.Heads.{onward}
+use Rattle.wire.proofs.Leadings.{skip_none, skip_one}
+use Rattle.wire.proofs.integer.unpadded.Goals as goal
+
+pub loop-i-init : goal.loop-i-init
+loop-i-init c = (omega arith, skip_none c.args.s.now)
+
+pub returns-then-s-i : goal.returns-then-s-i
+returns-then-s-i c = record { within = omega arith; skipped = c.loop-i.invariant.1; there = λ h. c.if-s-i.true }
+
+pub loop-i-preserved : goal.loop-i-preserved
+loop-i-preserved c = (omega arith, skip_one c.args.s.now c.loop-i.i (omega arith) c.if-s-i.false c.loop-i.invariant.1)
+
+pub returns : goal.returns
+returns c = record { within = omega arith; skipped = c.loop-i.invariant.1; there = λ h. absurd (omega arith) }
+
+pub bounds-s-i : goal.bounds-s-i
+bounds-s-i c = omega arith
+
+pub overflow_add-i : goal.overflow_add-i
+overflow_add-i c = omega arith
+
+pub loop-i-smaller : goal.loop-i-smaller
+loop-i-smaller c = omega arith

@@ -1,7 +1,0 @@
--- `size::capped` meets its contract. Assumes nothing.
-use native.Mathlib.Omega.{arith}
-use Rattle.wire.proofs.size.capped.Statement.{statement}
-use Rattle.wire.proofs.size.capped.Tie as tie
-
-pub capped-spec : {M : Type 1} → statement M
-capped-spec = tie.close (tie.spec (λ c. omega arith) (λ c. omega arith))

@@ -1,0 +1,45 @@
+-- `size::long_size` meets its contract. Assumes nothing.
+use Prim.Native.Nat.{◌-◌, ◌≤◌, min}
+use mathlib.Core.Path.{◌≡◌, refl, ◌∙◌}
+use native.Mathlib.Omega.{arith}
+use lib.ListN.{take, drop}
+use Rattle.format.specs.Numbers.{val}
+use Rattle.wire.proofs.Sizes.{size_step}
+use Rattle.wire.proofs.size.long_size.Goals as goal
+
+pub loop-i-init : goal.loop-i-init
+loop-i-init c = (omega arith, unfold val in refl)
+
+pub loop-i-preserved : goal.loop-i-preserved
+loop-i-preserved c =
+    let r = size_step c.args.s.now c.loop-i.i c.loop-i.n c.wide.result c.args.k (omega arith) (omega arith) c.loop-i.invariant.1 c.wide.ensures.0 in
+    (r.0, c.capped-n.ensures ∙ r.1)
+
+pub returns : goal.returns
+returns c =
+    let e : c.loop-i.i ≡ c.args.k = omega arith in
+    rw e at c.loop-i.invariant.1
+
+pub overflow_mul-n : goal.overflow_mul-n
+overflow_mul-n c = omega arith
+
+pub overflow_add-i : goal.overflow_add-i
+overflow_add-i c = omega arith
+
+pub bounds-s-i : goal.bounds-s-i
+bounds-s-i c = omega arith
+
+pub wide-requires : goal.wide-requires
+wide-requires c = tt
+
+pub overflow_add-n : goal.overflow_add-n
+overflow_add-n c = omega arith
+
+pub capped-n-requires : goal.capped-n-requires
+capped-n-requires c = tt
+
+pub overflow_add-i-in-loop-i : goal.overflow_add-i-in-loop-i
+overflow_add-i-in-loop-i c = omega arith
+
+pub loop-i-smaller : goal.loop-i-smaller
+loop-i-smaller c = omega arith

@@ -1,0 +1,13 @@
+use native.Mathlib.Omega.{arith}
+use Prim.Native.Nat.{◌+◌, ◌-◌}
+use lib.ListN.{length}
+use Rattle.wire.specs.Ranges.{Ranged}
+use Rattle.wire.proofs.Ranges.{ranged_none, ranged_join, between_wider}
+use borrow.Author.Rules.{rules}
+use Rattle.wire.proofs.span.blocks.Given as goal
+
+abbrev pub invariant-loop-e : goal.invariant-loop-e
+invariant-loop-e l = Ranged l.lo l.hi l.i l.e l.s
+
+abbrev pub decreases-loop-e : goal.decreases-loop-e
+decreases-loop-e l = length l.s - l.e

@@ -1,0 +1,24 @@
+-- `span::eights` meets its contract: up to e every byte from i on is below 128. Assumes nothing.
+use native.Mathlib.Omega.{arith}
+use Prim.Native.Nat.{◌+◌, ◌-◌}
+use lib.ListN.{length}
+use Rattle.wire.specs.Ranges.{Ranged}
+use Rattle.wire.proofs.Ranges.{ranged_none, ranged_join}
+use Rattle.wire.proofs.WordLaws.{all_low_lem}
+use borrow.Author.Rules.{rules}
+use Rattle.wire.proofs.span.eights.Goals as goal
+
+pub loop-e-init : goal.loop-e-init
+loop-e-init c = ranged_none _ _ _ c.args.s.now c.requires
+
+pub loop-e-preserved : goal.loop-e-preserved
+loop-e-preserved c =
+    let s = c.args.s.now in
+    let m = all_low_lem s c.loop-e.e _ (λ i. omega (arith, c.shared_slice_known-1.given i)) (omega arith) c.word_at.ensures c.if-word_at-ne0.false in
+    ranged_join 0 0x7f _ c.loop-e.e (c.loop-e.e + 8) s c.loop-e.invariant (omega arith) (omega arith) m
+
+pub returns-then-word_at-ne0 : goal.returns-then-word_at-ne0
+returns-then-word_at-ne0 c = c.loop-e.invariant
+
+pub returns : goal.returns
+returns c = c.loop-e.invariant
