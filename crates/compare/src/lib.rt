@@ -16,7 +16,7 @@ mod walk;
 
 // Comparing's answer: 0 or the number of a refusal, and the entries written or needed.
 #[repr(C)]
-#[derive(Drop)]
+#[derive(Clone, Copy)]
 pub struct Comparing {
     pub number: usize,
     pub entries: usize,

@@ -10,7 +10,7 @@ use crate::alike::rows_alike;
 use table::rows::next_row;
 
 // A row of each table.
-#[derive(Drop)]
+#[derive(Clone, Copy)]
 pub struct Pair {
     pub left: usize,
     pub right: usize,

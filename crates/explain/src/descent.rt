@@ -9,7 +9,7 @@ use wire::letters::is_repeat;
 
 // How far an object reaches: refused by its head; its bytes past the type-byte; or a container, where past the type-byte its contents
 // start, and their size.
-#[derive(Drop)]
+#[derive(Clone, Copy)]
 pub enum Step {
     Halt,
     Over(usize),
@@ -18,7 +18,7 @@ pub enum Step {
 
 // Where a descent ends: the object's offset, the end of the bytes that it may have, and how many containers stand around it. The places
 // of those that are open around the fault are the first `listed` of the trail.
-#[derive(Drop)]
+#[derive(Clone, Copy)]
 pub struct Spot {
     pub at: usize,
     pub end: usize,

@@ -10,7 +10,7 @@ use wire::head::{Head, Wrap, head_of};
 
 // Where the first element stands, where the second, and where the earliest that is not of the kind asked for: one more than the place
 // of its object, or 0 where there is none.
-#[derive(Drop)]
+#[derive(Clone, Copy)]
 pub struct Places {
     pub first: usize,
     pub second: usize,
@@ -19,7 +19,7 @@ pub struct Places {
 
 // An object in a run: refused by its head; padding; one element, its kind and its bytes past the type-byte; or a repeat, its count, where
 // past the type-byte its pattern starts, and the pattern's size.
-#[derive(Drop)]
+#[derive(Clone, Copy)]
 pub enum Piece {
     Halt,
     Skip,

@@ -7,7 +7,7 @@ use format::signed::word_of;
 // Nothing: no more than number and containers. End: the offset of the first byte past the end that was passed. Byte: the byte at fault,
 // and its place. Number: the length or count at fault. Absent: there is none. Kinds: the places of the first element and of the earliest
 // of another kind. Element: 1 or 2, and its object's place. NoElement: 1 or 2, which is not there. Wanted: rows and data words.
-#[derive(Drop)]
+#[derive(Clone, Copy)]
 pub enum Evidence {
     Nothing,
     End(usize),
@@ -21,7 +21,7 @@ pub enum Evidence {
 }
 
 // The evidence as it is answered: which case, and its two numbers.
-#[derive(Drop)]
+#[derive(Clone, Copy)]
 pub struct Code {
     pub evidence: usize,
     pub first: u64,

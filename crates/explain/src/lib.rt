@@ -27,7 +27,7 @@ mod stretch;
 // Explaining's answer: 0, or 16 where the lent list is too short; the places listed or needed; reading's answer for a table of the words
 // lent; and the evidence, by its code and two numbers (evidence::coded_of).
 #[repr(C)]
-#[derive(Drop)]
+#[derive(Clone, Copy)]
 pub struct Explaining {
     pub number: usize,
     pub entries: usize,

@@ -13,7 +13,7 @@ use wire::head::Head;
 use wire::integer::following_of;
 
 // What the walk wrote of an object, and the object's bytes past the type-byte.
-#[derive(Drop)]
+#[derive(Clone, Copy)]
 pub struct Placed {
     pub rows: usize,
     pub count: usize,

@@ -12,7 +12,7 @@ use wire::integer::{following_of, integer_of, is_linteger, is_sinteger};
 use wire::padding::padding_end;
 
 // Where a stretch ends, and how many rows it has.
-#[derive(Drop)]
+#[derive(Clone, Copy)]
 pub struct Stretch {
     pub upto: usize,
     pub rows: usize,

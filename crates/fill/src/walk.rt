@@ -19,7 +19,7 @@ use wire::head::{Head, Wrap, head_of};
 use wire::short::{short_size, wrap_by};
 
 // What the walk of a run wrote.
-#[derive(Drop)]
+#[derive(Clone, Copy)]
 pub struct Filled {
     pub rows: usize,
     pub count: usize,

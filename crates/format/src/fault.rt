@@ -46,7 +46,7 @@ pub const FIGURE_RANGE: usize = 22;
 
 // The number; the offset of the faulty object's type-byte, from the start of what is being read; and with 2 and 3 the bytes that
 // are missing, otherwise 0.
-#[derive(Drop)]
+#[derive(Clone, Copy)]
 pub struct Fault {
     pub number: usize,
     pub place: usize,

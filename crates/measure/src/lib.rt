@@ -19,7 +19,7 @@ mod rows;
 // Reading's answer: what message::read tells; and with 0 the order number, the unit, the figures, and these in micrometres. With any
 // other number all of these are 0.
 #[repr(C)]
-#[derive(Drop)]
+#[derive(Clone, Copy)]
 pub struct Measuring {
     pub number: usize,
     pub place: usize,

@@ -13,7 +13,7 @@ use scan::{Scanned, scan_message};
 
 // Reading's answer: 0 or the number of a refusal, its place, the words used or needed, and the bytes missing.
 #[repr(C)]
-#[derive(Drop)]
+#[derive(Clone, Copy)]
 pub struct Reading {
     pub number: usize,
     pub place: usize,
@@ -23,7 +23,7 @@ pub struct Reading {
 
 // Writing's answer: 0 or the number of a refusal, and the length written or needed.
 #[repr(C)]
-#[derive(Drop)]
+#[derive(Clone, Copy)]
 pub struct Writing {
     pub number: usize,
     pub length: usize,
@@ -31,7 +31,7 @@ pub struct Writing {
 
 // Normalising's answer: the first refusal's number or 0, reading's place, words and missing bytes, and writing's length.
 #[repr(C)]
-#[derive(Drop)]
+#[derive(Clone, Copy)]
 pub struct Normalising {
     pub number: usize,
     pub place: usize,

@@ -15,7 +15,7 @@ mod walk;
 
 // Salvaging's answer: 0 or the number of a refusal, the bytes written or needed, and the changes listed or needed.
 #[repr(C)]
-#[derive(Drop)]
+#[derive(Clone, Copy)]
 pub struct Salvaging {
     pub number: usize,
     pub length: usize,

@@ -19,7 +19,7 @@ use wire::size::{Extent, extent_of};
 use wire::span::until;
 
 // How bytes are met alone, given ample table: the number, and with 0 the rows and data words of what they say.
-#[derive(Drop)]
+#[derive(Clone, Copy)]
 pub struct Verdict {
     pub number: usize,
     pub rows: usize,
@@ -27,7 +27,7 @@ pub struct Verdict {
 }
 
 // A part: the bytes of an object, or of several that are sound, or 0 for the rest; and how it is met alone.
-#[derive(Drop)]
+#[derive(Clone, Copy)]
 pub struct Part {
     pub bytes: usize,
     pub number: usize,

@@ -10,7 +10,7 @@ ghost use Rattle.salvage.specs.Told.{Clean, first_of, measure_of};
 use super::parts::{alone, part_at};
 
 // Up to where nothing is changed; and what comes out: its bytes, the changes, and the rows and data words of what it says.
-#[derive(Drop)]
+#[derive(Clone, Copy)]
 pub struct Measure {
     pub first: usize,
     pub length: usize,

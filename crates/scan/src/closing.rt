@@ -8,7 +8,7 @@ use format::kinds::{INT, STRING};
 use wire::head::Wrap;
 
 // What an object comes to: its refusal, the place from the type-byte on; or its items' summary and its bytes past the type-byte.
-#[derive(Drop)]
+#[derive(Clone, Copy)]
 pub enum Object {
     Bad(Fault),
     Got(Summary, usize),

@@ -24,7 +24,7 @@ use wire::integer::following_of;
 use wire::short::{is_string, short_size, wrap_by};
 
 // What a run of objects comes to: its refusal, or its items' summary.
-#[derive(Drop)]
+#[derive(Clone, Copy)]
 pub enum Scanned {
     Refused(Fault),
     Accepted(Summary),

@@ -12,7 +12,7 @@ use wire::padding::padding_end;
 use wire::span::{all_low, chars_end, until};
 
 // Where a stretch ends, and how many items of what kind it is.
-#[derive(Drop)]
+#[derive(Clone, Copy)]
 pub struct Leap {
     pub upto: usize,
     pub kind: u64,
@@ -20,7 +20,7 @@ pub struct Leap {
 }
 
 // Where a stretch of integers ends, and how many they are.
-#[derive(Drop)]
+#[derive(Clone, Copy)]
 struct Ints {
     upto: usize,
     many: usize,

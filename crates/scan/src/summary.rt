@@ -19,7 +19,7 @@ const ROWS_COUNTED: usize = 524288;
 // For a USTRUC: `mix`, the kinds met: 0 none, SEVERAL, or else the one. The class of an element is enough to know its kind. A STRUC
 // is a string where they are none or CHAR.
 // For an EDT: its leads `first` and `second`, the first two elements: 0 where there is none, STRING, or else the kind.
-#[derive(Drop)]
+#[derive(Clone, Copy)]
 pub struct Summary {
     pub rows: usize,
     pub words: usize,

@@ -3,14 +3,14 @@ ghost use Rattle.std.specs.Prelude.{◌≡◌, ◌+◌, ◌<◌, ◌^◌, length
 ghost use Rattle.sheetlist.specs.Inputs.{stepped, Held};
 
 // The input's end was met, or the lent bytes are full: so many bytes lie at their start. Or a read failed.
-#[derive(Drop)]
+#[derive(Clone, Copy)]
 pub enum Input {
     Whole(usize),
     Failed,
 }
 
 // So many bytes have come, and more may; or what the input is.
-#[derive(Drop)]
+#[derive(Clone, Copy)]
 pub enum Step {
     More(usize),
     Ends(Input),

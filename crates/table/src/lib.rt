@@ -6,7 +6,7 @@ pub mod rows;
 pub mod words;
 
 // A row: wrong, or right with the data words that it takes.
-#[derive(Drop)]
+#[derive(Clone, Copy)]
 pub enum Judged {
     Wrong,
     Right(usize),

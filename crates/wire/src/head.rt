@@ -20,7 +20,7 @@ use format::signed::word_of;
 use format::tree::{class_of, ones_of};
 
 // How a container closes over its contents.
-#[derive(Drop)]
+#[derive(Clone, Copy)]
 pub enum Wrap {
     Struc,
     Ustruc,
@@ -36,7 +36,7 @@ pub enum Wrap {
 // Text: a string: where past the type-byte its characters start, and how many.
 // Open: a container: how it closes, where past the type-byte its contents start, and their size.
 // The last number of Row, Sbits and Lbits is that of the object's bytes past the type-byte.
-#[derive(Drop)]
+#[derive(Clone, Copy)]
 pub enum Head {
     Stop(Fault),
     Gap,
@@ -48,14 +48,14 @@ pub enum Head {
 }
 
 // A container's contents, or its refusal.
-#[derive(Drop)]
+#[derive(Clone, Copy)]
 enum Contained {
     Outside(Fault),
     Inside(usize, usize),
 }
 
 // A length or count with the bytes up to its end, or the refusal.
-#[derive(Drop)]
+#[derive(Clone, Copy)]
 enum Counted {
     Wrong(Fault),
     Right(usize, usize),

@@ -11,7 +11,7 @@ use format::tree::class_of;
 
 // The INT at the front of contents. Cut: it ends too early, at that place, and how many of its bytes are missing. Found: its value, and
 // the bytes up to its end.
-#[derive(Drop)]
+#[derive(Clone, Copy)]
 pub enum Leading {
     Absent,
     Cut(usize, usize),

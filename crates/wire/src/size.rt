@@ -5,7 +5,7 @@ ghost use Rattle.wire.specs.Extents.{ExtentIs, extent_at, long_count};
 ghost use Rattle.format.specs.Refusals.{byte_limit};
 
 // Wanting: size bytes or contents are missing, and how many. Within: where past the type-byte the contents start, and their size.
-#[derive(Drop)]
+#[derive(Clone, Copy)]
 pub enum Extent {
     Wanting(usize),
     Within(usize, usize),

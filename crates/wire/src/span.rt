@@ -5,7 +5,7 @@ ghost use Rattle.wire.specs.Ranges.{Between, Ranged};
 use super::integer::word_at;
 
 // The least and the greatest of some bytes.
-#[derive(Drop)]
+#[derive(Clone, Copy)]
 struct Spread {
     low: u8,
     high: u8,

@@ -21,14 +21,14 @@ use table::judge::rows_ok;
 use table::rows::header_ok;
 
 // A number by the shears, and the length that was written (0) or is needed (15); with other numbers it is 0.
-#[derive(Drop)]
+#[derive(Clone, Copy)]
 pub struct Written {
     pub number: usize,
     pub length: usize,
 }
 
 // What is known of a table before there is an output: a refusal's number, or the length of the normal form.
-#[derive(Drop)]
+#[derive(Clone, Copy)]
 enum Verdict {
     Refused(usize),
     Normal(usize),

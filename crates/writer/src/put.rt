@@ -50,7 +50,7 @@ fn head_byte(kind: u64) -> u8
 }
 
 // Items of one byte: those of one kind whose last word is below `most`. The byte is `low` plus that word.
-#[derive(Drop)]
+#[derive(Clone, Copy)]
 struct Single {
     kind: u64,
     most: u64,

@@ -14,7 +14,7 @@ use table::words::{bits_row, string_row};
 
 // The bytes of the normal form, the number of items, and the data words up to the end; or rows that are not those of items; or
 // items in which more containers stand inside one another than were allowed.
-#[derive(Drop)]
+#[derive(Clone, Copy)]
 pub enum Surveyed {
     Whole(usize, u64, usize),
     Wrong,
@@ -22,7 +22,7 @@ pub enum Surveyed {
 }
 
 // A row that is not that of an item; or the bytes of some items without elements, the row behind them, and the data words up to it.
-#[derive(Drop)]
+#[derive(Clone, Copy)]
 enum Leaves {
     Wrong,
     Right(usize, usize, usize),
