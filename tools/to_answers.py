@@ -50,6 +50,11 @@ class Function:
         self.arms = {p[0]: a for p, a in zip(data["places"], data["arms"])}
         self.typed = {p[0]: a for p, a in zip(data["places"], data["typed"])}
         self.clauses = {p[0]: a for p, a in zip(data["places"], data["clauses"])}
+        # an arm's facts come in several steps: the last one has them all
+        for p, a in self.arms.items():
+            if a:
+                last = max((q for q, b in self.arms.items() if b and b[0] == a[0]), key=lambda q: self.arms[q][1])
+                self.new_place[p] = self.new_place[last]
         self.needs = data["needs"]
         self.asked = data["asked_at"]
         self.data = data
@@ -73,6 +78,23 @@ class Function:
     def above(self, place):
         p = self.places[place][1]
         return p if p else None
+
+
+def parameters():
+    """The names of the parameters of each function of the repository."""
+    found, top = {}, os.path.join(os.path.dirname(os.path.realpath(__file__)), "..", "crates")
+    for folder, dirs, files in os.walk(top):
+        dirs[:] = [d for d in dirs if d != "out"]
+        for name in files:
+            if name.endswith(".rt"):
+                crate = os.path.relpath(folder, top).split("/")[0]
+                with open(os.path.join(folder, name), encoding="utf-8") as it:
+                    for m in re.finditer(r"\bfn (\w+)\(([^)]*)\)", it.read()):
+                        found[crate, m.group(1)] = re.findall(r"(\w+):", m.group(2))
+    return found
+
+
+PARAMS = parameters()
 
 
 def split_blocks(text):
@@ -115,6 +137,8 @@ class Body:
     def __init__(self, fn, place, need, helpers, own_new):
         self.fn, self.need, self.helpers, self.own = fn, need, helpers, own_new
         self.env = {"c": (place, [])}
+        self.is_cycle = bool(fn.data["stem"])
+        self.binders = "t c" if self.is_cycle else "c"
         self.left = []
 
     def resolve(self, place, comps):
@@ -146,11 +170,21 @@ class Body:
             named = fn.clauses.get(place)
             if rest[:1] == ["ensures"] and named:
                 rest = ["ensures"] + self.clause(rest[1:], named)
+            if rest[:1] in (["new"], ["auto"]) and p[3]:
+                for k, var in enumerate(fn.data["params"].get(p[3], [])):
+                    at = ["1"] * k + ["0"]
+                    if rest[1:1 + len(at)] == at:
+                        rest = [rest[0], var] + rest[1 + len(at):]
+                        break
             return ("path", [new] + rest)
         typed = fn.typed.get(place) or []
         for var, known in typed:
             if norm(step).startswith(norm(known)) and comps[1:2] == ["given"]:
                 return ("path", ["type_inv", var] + comps[2:])
+        if step == "requires" and self.is_cycle:
+            if comps[1:2] == ["0"]:
+                return ("path", ["decreases"] + comps[2:])
+            comps = comps[:1] + comps[2:]
         if step == "requires" and fn.data["pre"]:
             comps = ["requires"] + self.clause(comps[1:], fn.data["pre"])
         if step in ("args", "requires", "ranges", "loop", "type_inv", "utf8"):
@@ -165,6 +199,10 @@ class Body:
 
     def clause(self, comps, named):
         """The parts of several clauses were a pair each; now they have names."""
+        if isinstance(named, dict):
+            if named.get("before"):
+                self.left.append(f"clauses {named}")
+            named = named["fields"]
         for k, name in enumerate(named):
             at = ["1"] * k + (["0"] if k < len(named) - 1 else [])
             if comps[:len(at)] == at and (k == len(named) - 1 or comps[k] == "0"):
@@ -181,9 +219,9 @@ class Body:
             return ".".join(["c"] + ["type_inv" if w == "type-inv" else w for w in what])
         new = self.fn.new_place[what]
         if self.need and what == self.env["c"][0]:
-            return "c" if not self.is_argument else f"(goal.at.{self.own} c).{new}"
+            return "c" if not self.is_argument else f"(goal.at.{self.own} {self.binders}).{new}"
         if self.need:
-            return f"(goal.at.{self.own} c).{new}"
+            return f"(goal.at.{self.own} {self.binders}).{new}"
         return "c" if what == self.env["c"][0] else f"(LEFT-place {new})"
 
     def turn(self, text):
@@ -206,7 +244,7 @@ class Body:
                 at, rest = self.fn.above(at), rest[1:]
             if not rest:
                 self.env[var] = (at, [])
-            elif rest[-1] in ("given", "args") or (len(rest) <= 2 and rest[0] in ("loop",)) or re.match(r"^(given)$", rest[1] if len(rest) > 1 else ""):
+            elif len(rest) == 1 or rest[-1] in ("given", "args", "new") or (rest in (["requires"], ["requires", "1"]) and (self.fn.data["pre"] or self.is_cycle)) or (rest[-1] == "ensures" and self.fn.clauses.get(at)) or (len(rest) <= 2 and rest[0] in ("loop",)) or re.match(r"^(given)$", rest[1] if len(rest) > 1 else ""):
                 self.env[var] = (at, rest)
             else:
                 pos = m.end()
@@ -219,14 +257,53 @@ class Body:
             if var not in self.env:
                 return m.group()
             before = text[:m.start()].rstrip()
-            self.is_argument = not tail and bool(re.search(r"(%s)$" % "|".join(map(re.escape, self.helpers)), before)) if self.helpers else False
+            self.is_argument = not tail and bool(re.search(r"(%s)( t)?$" % "|".join(map(re.escape, self.helpers)), before)) if self.helpers else False
             return self.value(var, tail, m.start())
 
         text = PATH.sub(one, text)
         # what `.true` and `.false` of `!x` say is said of x itself now
         text = text.replace(".type-inv", ".type_inv")
-        said = r"(?:held|yes_not) _ (c\.if-not-[\w\-]+\.(?:true|false))"
+        said = r"(?:held|yes_not|not-true|not-false) _ (c\.if-not-[\w\-]+\.(?:true|false))"
         return re.sub(r"\b" + said, r"\1", re.sub(r"\(" + said + r"\)", r"\1", text))
+
+
+def as_record(body, fields):
+    """A tuple that answers several clauses becomes a record by their names."""
+    if not fields or len(fields) < 2:
+        return body
+    text = body.rstrip()
+    parts = [".1" * k + ".0" * (k < len(fields) - 1) for k in range(len(fields))]
+    whole = "let r = (" + text.strip() + ") in record { " + "; ".join(f"{n} = r{p}" for n, p in zip(fields, parts)) + " }"
+    whole = whole if text.startswith("\n") or "\n" not in text else "\n    " + whole
+    if not re.search(r"search rules|^\s*\?$", text):
+        body = " " + whole if not whole.startswith("\n") else whole
+    if not text.endswith(")"):
+        return body
+    depth, at = 0, len(text) - 1
+    while at >= 0:
+        depth += (text[at] == ")") - (text[at] == "(")
+        if depth == 0:
+            break
+        at -= 1
+    before = text[:at].rstrip()
+    if before and not before.endswith(" in") and not before.endswith("="):
+        return body
+    rest, parts = text[at + 1:-1].rstrip().rstrip(","), []
+    for k in range(len(fields) - 1):
+        depth, cut = 0, None
+        for i, ch in enumerate(rest):
+            depth += (ch in "([{") - (ch in ")]}")
+            if ch == "," and depth == 0:
+                cut = i
+                break
+        if cut is None:
+            return body
+        parts.append(rest[:cut].strip())
+        rest = rest[cut + 1:].strip()
+        if k < len(fields) - 2 and rest.startswith("(") and rest.endswith(")"):
+            rest = rest[1:-1]
+    parts.append(rest.strip())
+    return text[:at] + "record { " + "; ".join(f"{n} = {p}" for n, p in zip(fields, parts)) + " }"
 
 
 def body_of(block):
@@ -267,6 +344,8 @@ def convert(crate, path, names, report):
                 uses.append(first)
             continue
         m = re.match(r"(?:abbrev )?(?:unfoldable )?(?:pub )?(\+?[^\s:]+)", first)
+        if first.strip() == ")":
+            continue
         shown.append((m.group(1), comments, lines))
 
     def member(sig):
@@ -288,7 +367,7 @@ def convert(crate, path, names, report):
             helper_names.append(n)
     for n, comments, lines in shown:
         sig = lines[0]
-        if n.endswith("-spec") or n.startswith("+"):
+        if n.endswith(("-spec", "_spec")) or n.startswith("+"):
             # the list: answers that stand in it
             body = "\n".join(lines[1:])
             for m in re.finditer(r"\(λ c(?: κs)?\.\s", body):
@@ -298,7 +377,7 @@ def convert(crate, path, names, report):
                     at += 1
                 said = body[m.end():at - 1].strip()
                 label = re.match(r"\)*\s*-- ([\w\-']+)", body[at:])
-                if said == "search rules" or not label:
+                if said in ("search rules", "omega arith") or not label:
                     continue
                 answers.append(("LIST", label.group(1), said))
             continue
@@ -321,7 +400,7 @@ def convert(crate, path, names, report):
         body = "\n".join(lines)
         return b, body
 
-    done = []
+    done, inlined = [], {}
     for n, comments, lines, f, what in helpers:
         if f is None or fns.get(f) is None or fns[f].place(what) is None:
             if re.search(r"lts\.|-kinds|Claims|\btie\.", "\n".join(lines)):
@@ -334,8 +413,13 @@ def convert(crate, path, names, report):
         places_used.add((f, new))
         b = Body(fn, place, False, helper_names, None)
         t = "\n".join(lines)
-        t = re.sub(r"\(c : [^()]*(?:\([^()]*\))?[^()]*?(?:tie|lts)\.[\w'\-]+\)", f"(c : {f + '-' if is_cycle and f else ''}{new})", t, count=1)
+        t = re.sub(r"\(c : [^()]*(?:\([^()]*\))?[^()]*?(?:tie|lts)\.[\w'\-]+\)", f"(c : {f + '-' if is_cycle and f else ''}{new}{' t' if is_cycle else ''})", t, count=1)
         t = b.turn(t)
+        for other, said in inlined.items():
+            t = re.sub(r"(?<![\w\-])" + re.escape(other) + r"( t)? (?:\(\(LEFT-place [^)]*\)\)|\(LEFT-place [^)]*\))", lambda m: "(" + said + ")", t)
+        clause = t.split("\n" + n + " ", 1)
+        if len(clause) == 2 and re.match(r"(t )?c =", clause[1]):
+            inlined[n] = re.sub(r"\s+", " ", clause[1].partition("=")[2].strip())
         done.append("\n".join(comments + [t]))
         for l in b.left:
             report.append(f"{path}: {n}: {l}")
@@ -393,17 +477,32 @@ def convert(crate, path, names, report):
         b = Body(fn, place, True, helper_names, full)
         binder = "t c" if is_cycle else "c"
         if lines is None:
-            done.append(f"pub {full} : goal.{full}\n{full} {binder} = {b.turn(t)}")
+            said = as_record(b.turn(t), fn.data["asked"].get(old))
+            done.append(f"pub {full} : goal.{full}\n{full} {binder} = {said}")
         else:
+            fields = fn.data["asked"].get(old)
             unf = [l for l in lines[1:] if l.startswith("unfolding ")]
             clause = [l for l in lines[1:] if not l.startswith("unfolding ")]
             t = "\n".join(clause)
             t = re.sub(r"^" + re.escape(n) + r" c( κs)? =", "@@ =", t)
             head, eq, body = t.partition("=")
-            body = b.turn(body)
+            body = as_record(b.turn(body), fields)
             done.append("\n".join(comments + [f"pub {full} : goal.{full}"] + unf + [f"{full} {binder} ={body}"]))
         for l in b.left:
             report.append(f"{path}: {full}: {l}")
+    measures = []
+    for n, comments, lines in shown:
+        m = re.match(r"μ-(.*)", n)
+        if m and "Measures" in lines[0]:
+            member_of = [f for f in fns if norm(f) == norm(m.group(1))]
+            if not member_of:
+                report.append(f"{path}: measure {n}")
+                continue
+            f = member_of[0]
+            body = " ".join(lines[1:]).partition(" =")[2].strip()
+            params = PARAMS.get((name, f), [])
+            body = re.sub(r"\ba((?:\.1)*)\.0\b", lambda k: "l." + params[len(k.group(1)) // 2], body)
+            measures.append(f"abbrev pub decreases-{f} : goal.decreases-{f}\ndecreases-{f} l = {body}")
     mod = f"Rattle.{name}.proofs.{inner}"
     head = [c for c in text.split("\n") if c.startswith("--")][:0]
     lead = []
@@ -418,8 +517,8 @@ def convert(crate, path, names, report):
     if done:
         with open(os.path.join(folder, "Answers.antt"), "w", encoding="utf-8") as it:
             it.write("\n".join(out) + "\n\n" + "\n\n".join(done) + "\n")
-    if invariants or re.search(r"(?m)^abbrev μ-", text):
-        inv = []
+    if invariants or measures:
+        inv = list(measures)
         for n, f, what, comments, lines in invariants:
             fn = fns[f]
             t = "\n".join(lines[1:])

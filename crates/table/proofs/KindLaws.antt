@@ -1,13 +1,14 @@
 -- A string and the EDT rule, by the rows and by the items that stand there. Assumes nothing.
 use mathlib.Core.Path.{◌≡◌, refl, sym, ◌∙◌, ap, ap₂}
 use mathlib.Core.List.{List}
+use lib.ListN.{length}
 use mathlib.Core.Bool.{false}
 use Prim.Native.Nat.{ℕ, ◌+◌, ◌<◌}
 use native.Mathlib.Omega.{arith}
 use lib.Dec.{eqb}
 use Rattle.format.specs.Choice.{both, either}
 use Rattle.format.specs.Items.{Group, struc, edt, Items, end, leaf, group, leaf_kind, group_kind, all_of, kinds, is_string, starts_int, starts_string, behind, edt_rule}
-use Rattle.format.specs.Tables.{rows, is_text, row_kind}
+use Rattle.format.specs.Tables.{rows, is_text, row_kind, leaf_words}
 use Rattle.format.proofs.Choices.{eq_true, eq_false, whether, both_no}
 use Rattle.format.proofs.TableLaws.{leaf_kind_lem, text_kind, other_kind}
 use Rattle.table.specs.Rows.{kind_at, Stands}
@@ -33,7 +34,7 @@ unfolding is_string all_of kinds rows
 string_is w d p e end s = chars_out w p e (omega (arith, s.number))
 string_is w d p e (leaf l xs) s =
     let k = leaf_parts w d p e l xs s in
-    chars_in w p e (omega (arith, s.number)) ∙ ap₂ both (ap (λ z. eqb z 3) k.0.kind) (string_is w _ (p + 1) e xs k.1)
+    chars_in w p e (omega (arith, s.number)) ∙ ap₂ both (ap (λ z. eqb z 3) k.0.kind) (string_is w (d + length (leaf_words l)) (p + 1) e xs k.1)
 string_is w d p e (group g c xs) s =
     let k = group_row w d p e g c xs s in
     let o = group_other g c in

@@ -25,7 +25,7 @@ use Rattle.format.proofs.Sizes.{size_zero, size_small, size_large}
 low_low : (n k : ℕ) → n % 256 ^ suc k % 256 ≡ n % 256
 low_low n k =
     let e : 256 ^ suc k ≡ 2 ^ (8 * k + 8) = omega (arith, pow-suc 256 k, P.pow-add 2 (8 * k) 8, pow_bytes k) in
-    rw e (P.mod_mod_pow n (8 * k) 8)
+    rw e (P.mod-mod-pow n (8 * k) 8)
 
 low_high : (n k : ℕ) → n % 256 ^ suc k / 256 ≡ n / 256 % 256 ^ k
 low_high n k =
@@ -55,7 +55,7 @@ low_parts a zero n =
 low_parts a (suc b) n =
     let z : a + suc b ≡ suc (a + b) = omega arith in
     let e : 8 + 8 * b ≡ 8 * suc b = omega arith in
-    let d : n / 256 / 2 ^ (8 * b) ≡ n / 2 ^ (8 * suc b) = P.shr_shr n 8 (8 * b) ∙ ap (λ k. n / 2 ^ k) e in
+    let d : n / 256 / 2 ^ (8 * b) ≡ n / 2 ^ (8 * suc b) = P.shr-shr n 8 (8 * b) ∙ ap (λ k. n / 2 ^ k) e in
     ap (λ k. be k (n % 256 ^ k)) z ∙ low_snoc (a + b) n ∙ ap (λ l. l ++ (n % 256 ∷ [])) (low_parts a b (n / 256))
     ∙ append_assoc (be a (n / 256 / 2 ^ (8 * b) % 256 ^ a)) (be b (n / 256 % 256 ^ b)) (n % 256 ∷ [])
     ∙ ap₂ (λ x l. be a (x % 256 ^ a) ++ l) d (sym (low_snoc b n))
@@ -66,7 +66,7 @@ unfolding be
 low_head k n =
     let z : 8 * suc k ≡ 8 + 8 * k = omega arith in
     let e : 256 ^ suc k ≡ 2 ^ (8 + 8 * k) = sym (pow_bytes (suc k)) ∙ ap (λ x. 2 ^ x) z in
-    ap₂ (λ u v. n % u / v ∷ be k (n % u % v)) e (sym (pow_bytes k)) ∙ ap₂ (λ x y. x ∷ be k y) (P.field n 8 (8 * k)) (P.mod_mod_pow n 8 (8 * k))
+    ap₂ (λ u v. n % u / v ∷ be k (n % u % v)) e (sym (pow_bytes k)) ∙ ap₂ (λ x y. x ∷ be k y) (P.field n 8 (8 * k)) (P.mod-mod-pow n 8 (8 * k))
     ∙ ap (λ v. n / 2 ^ (8 * k) % 256 ∷ be k (n % v)) (pow_bytes k)
 
 pub low_four : (n : ℕ) → be 4 (n % 256 ^ 4) ≡ n / 2 ^ 24 % 256 ∷ n / 2 ^ 16 % 256 ∷ n / 2 ^ 8 % 256 ∷ n % 256 ∷ []
