@@ -100,6 +100,7 @@ PARAMS = parameters()
 def split_blocks(text):
     """Top-level declarations with the comment lines above them. Lines of `module _ (t : ℕ) where` are laid out flat."""
     lines, out, inside = text.split("\n"), [], False
+    of_module = set()
     for line in lines:
         if re.match(r"module _ .* where$", line):
             inside = True
@@ -107,6 +108,9 @@ def split_blocks(text):
         if inside and line and not line.startswith("  "):
             inside = False
         out.append(line[2:] if inside and line.startswith("  ") else line)
+        m = re.match(r"(?:abbrev )?(?:pub )?([^\s:]+) :", out[-1])
+        if inside and m and not out[-1].startswith("--"):
+            of_module.add(m.group(1))
     blocks, cur = [], []
     for line in out:
         is_start = line and not line[0].isspace() and not line.startswith("unfolding ")
@@ -128,7 +132,7 @@ def split_blocks(text):
         cur.append(line)
     if cur:
         blocks.append("\n".join(cur).rstrip())
-    return [b for b in blocks if b.strip()]
+    return [b for b in blocks if b.strip()], of_module
 
 
 class Body:
@@ -331,7 +335,7 @@ def convert(crate, path, names, report):
             report.append(f"{path}: no names")
             return
         fns = {"": Function(data)}
-    blocks = split_blocks(text)
+    blocks, of_module = split_blocks(text)
     uses, answers, invariants, helpers = [], [], [], []
     shown = []
     for b in blocks:
@@ -365,6 +369,25 @@ def convert(crate, path, names, report):
         f, what = member("\n".join(lines[:3]) if not re.search(r"(tie|lts)\.", lines[0]) else lines[0])
         if f is not None and what and not what.startswith("Need-") and not what.startswith(("Claims", "invariant", "decreases", "Invariant", "Measure")):
             helper_names.append(n)
+    in_module = [n for n in helper_names if n in of_module]
+    if in_module:
+        call = re.compile(r"(?<![\w.\-])(" + "|".join(map(re.escape, sorted(in_module, key=len, reverse=True))) + r")(?![\w\-'])(?! t\b)")
+        for n, comments, lines in shown:
+            own = n if n in in_module else None
+            for i, line in enumerate(lines):
+                if own and re.match(r"(?:abbrev )?(?:pub )?" + re.escape(own) + r" :", line):
+                    lines[i] = re.sub(r" : \(c :", " : (t : ℕ) (c :", line, count=1)
+                    m = re.match(r"(.*?) : (\w[\w\-]*_of|[\w\-]+-of) ([\w\-]+-lts\.[\w\-']+) → (.*)", lines[i])
+                    if m:
+                        lines[i] = f"{m.group(1)} : (t : ℕ) (c : {m.group(2)} {m.group(3)}) → {m.group(4)}"
+                        for j in range(i + 1, len(lines)):
+                            k = re.match(re.escape(own) + r" (\w+) =", lines[j])
+                            if k:
+                                lines[j] = f"{own} t c =" + re.sub(r"(?<![\w.\-])" + k.group(1) + r"(?![\w\-'])", "c", lines[j][k.end():])
+                elif own and line.startswith(own + " ") and not line.startswith(own + " t "):
+                    lines[i] = own + " t" + call.sub(r"\1 t", line[len(own):])
+                else:
+                    lines[i] = call.sub(r"\1 t", line)
     for n, comments, lines in shown:
         sig = lines[0]
         if n.endswith(("-spec", "_spec")) or n.startswith("+"):
