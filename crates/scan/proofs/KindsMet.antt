@@ -18,7 +18,12 @@ Codes (k ∷ ks) = (0 < k) × (k < 255) × Codes ks
 
 pub leaf_code : (l : Leaf) → 0 < leaf_kind l
 unfolding leaf_kind
-leaf_code l = elim l [ int z ↦ omega arith | bits bs ↦ omega arith | char c ↦ omega arith | bool b ↦ omega arith | empty ↦ omega arith | xtra n ↦ omega arith ]
+leaf_code (int z) = omega arith
+leaf_code (bits bs) = omega arith
+leaf_code (char c) = omega arith
+leaf_code (bool b) = omega arith
+leaf_code empty = omega arith
+leaf_code (xtra n) = omega arith
 
 group_code : (g : Group) → (0 < group_kind g) × (group_kind g < 255)
 unfolding group_kind

@@ -55,9 +55,6 @@ module _ (d b : ℕ) (s : List ℕ) (r : Head) (t : HeadIs s r (O.head_of d b s)
       let x = is (Row k v u) e in
       given (one x.0) u a x.1 (f ∙ sym (sum_row x.0 k x.2.kind x.2.none))
 
-  pub sbits_few : (n w u : ℕ) → r ≡ Sbits n w u → n ≤ 63
-  sbits_few n w u e = (is (Sbits n w u) e).2.few
-
   pub sbits_is : (n w u : ℕ) (a : Summary) → r ≡ Sbits n w u → a ≡ one_of 2 1 (words_for n) → Got a u ≡ answer_object (object_at d b s)
   unfolding words_for
   sbits_is n w u a e f =
@@ -75,9 +72,6 @@ module _ (d b : ℕ) (s : List ℕ) (r : Head) (t : HeadIs s r (O.head_of d b s)
       let x = is (Lbits a n u) e in
       let g : (n + 63) / 64 ≤ 65536 = omega (arith, lbits_few a n u e) in
       given (one (bits (bits_from s a n))) u z x.0 (f ∙ sym (sum_bits (bits_from s a n) n (lbits_length s a n (omega (arith, x.1, x.2))) g))
-
-  pub text_fits : (a n : ℕ) → r ≡ Text a n → a + n ≤ length s
-  text_fits a n e = (is (Text a n) e).1
 
   pub text_is : (a n : ℕ) (z : Summary) → length s ≤ 65536 → r ≡ Text a n → z ≡ text_of n → Got z (a + n) ≡ answer_object (object_at d b s)
   text_is a n z h e f =

@@ -6,7 +6,7 @@ use native.Mathlib.Numerals.{add-one}
 use mathlib.Core.Path.{◌≡◌, refl, sym, ap, ◌∙◌, subst}
 use mathlib.Core.Logic.{◌≢◌}
 use mathlib.Core.List.{List}
-use lib.ListN.{length, take, drop, get_or, length-drop}
+use lib.ListN.{length, take, drop, get_or}
 use lib.Seq.{drop-drop}
 use Rattle.format.specs.Choice.{if_eq}
 use Rattle.format.specs.declared.fault.Fault.{Fault}
@@ -114,10 +114,7 @@ module _ (d : ℕ) (s : List ℕ) (i n : ℕ) (h : i < length s) (a : ShortAt d 
       let f : i + 1 + 1 ≡ i + 2 = omega arith in
       rw (e, rest_part s (i + 1), drop-drop 1 (i + 1) s, f) refl
 
-  pub short_fits : i + 2 + n ≤ length s
-  short_fits = let l : length (take (length s - (i + 1)) (drop (i + 1) s)) ≡ length s - (i + 1) = ap length (rest_part s (i + 1)) ∙ length-drop (i + 1) s in omega (arith, a.within)
-
-  pub short_size : length inside ≡ n
+  short_size : length inside ≡ n
   short_size = ap length inside_is ∙ contents_length (take (length s - (i + 1)) (drop (i + 1) s)) 1 n a.within
 
   short_here : (r : Scanned) → as_object (1 + length inside) r ≡ answer_object (short_object d (get_or s i 0) inside)

@@ -4,16 +4,11 @@ use native.Mathlib.Omega.{arith}
 use mathlib.Core.Path.{◌≡◌, ap, ◌∙◌}
 use Rattle.format.specs.Bits.{words_for}
 use Rattle.scan.specs.Sums.{element_of, text_of}
-use borrow.Author.Rules.{rules}
-use Rattle.scan.proofs.summary.text_of.Statement.{statement}
-use Rattle.scan.proofs.summary.text_of.Tie as tie
+use Rattle.scan.proofs.summary.text_of.Goals as goal
 
-returns : tie.Need-returns
+pub returns : goal.returns
 unfolding text_of words_for
 returns c =
-    let n = c.before.args.n in
+    let n = c.args.n in
     let e : (n + 7) / 8 ≡ (8 * n + 63) / 64 = omega arith in
     c.element.ensures ∙ ap (element_of 7 9 1) e
-
-pub text-of-spec : {M : Type 1} → statement M
-text-of-spec = tie.close (tie.spec (λ c. search rules) (λ c κs. search rules) returns)
