@@ -48,17 +48,27 @@ tell() {
     told=1
 }
 
-# Names each crate as it is proved, by the lines that rt prints, and keeps those. Where rt prints nothing for a while, it proves.
+# The crates that the program stands on, lowest first, as crates.txt has them.
+crates() {
+    awk -F: '/^[a-z]/ { sub(/ .*/, "", $1); sub(/#.*/, "", $2); names[++n] = $1; below[$1] = $2 }
+        END {
+            for (i = n; i > 0; i--) {
+                if (names[i] != "sheetlist" && !(names[i] in wanted)) continue
+                split(below[names[i]], deps, " ")
+                for (k in deps) wanted[deps[k]] = 1
+            }
+            for (i = 1; i <= n; i++) if (names[i] in wanted) print names[i]
+        }' "$top/crates.txt"
+}
+
+# Keeps what rt prints, and tells that proving is under way if that takes a while or if rt says that it proves.
 follow() {
-    local told='' held='' part
-    [ -x "$program" ] || tell
+    local part
     while true; do
         if IFS= read -r -t 3 part; then
-            part=$held$part held=''
             printf '%s\n' "$part" >>"$work/log"
-            case $part in 'rt: '*' proved ('*' s)') tell && printf 'list.sh: %s\n' "${part#rt: }" >&2 ;; esac
+            case $part in 'rt: '*) tell ;; esac
         elif [ $? -gt 128 ]; then
-            held=$held$part
             tell
         else
             return
@@ -66,17 +76,33 @@ follow() {
     done
 }
 
-# Proves and builds the program under the lock, and copies it out of the way of later builds. A stamp whose program is gone
-# would keep it from being built.
+# Runs rt in a crate's folder. What rt says while it proves names the crate, with the time that it took.
+prove() {
+    local crate=$1 start=$SECONDS lines
+    shift
+    lines=$(wc -l <"$work/log")
+    (cd "$top/crates/$crate" && exec rt "$@" 2>&1 </dev/null 8<&-) | follow
+    [ "${PIPESTATUS[0]}" -eq 0 ] || return 1
+    [ -z "$told" ] || ! tail -n "+$((lines + 1))" "$work/log" | grep -q '^rt: ' || printf 'list.sh: %s proved (%s s)\n' "$crate" "$((SECONDS - start))" >&2
+}
+
+# Proves and builds the program under the lock, and copies it out of the way of later builds. Whoever runs it with no input has an
+# empty listing, which is of no interest here.
 build() {
+    local crate
     lock
-    [ -x "$program" ] || rm -f "$top/target/stamp/sheetlist"
-    (cd "$top" && exec rt check sheetlist 2>&1 </dev/null 8<&-) | follow
-    if [ "${PIPESTATUS[0]}" -ne 0 ] || ! cp "$program" "$work/sheetlist"; then
-        tail -n 20 "$work/log" >&2
-        stop 3 'the program could not be built'
-    fi
+    [ -x "$program" ] || tell
+    for crate in $(crates); do
+        prove "$crate" lib || fail
+    done
+    prove sheetlist run || fail
+    cp "$program" "$work/sheetlist" || fail
     exec 9<&-
+}
+
+fail() {
+    tail -n 20 "$work/log" >&2
+    stop 3 'the program could not be built'
 }
 
 # Lists the message into a file. Whatever went wrong was said on standard error, by the program or by the shell.
@@ -113,12 +139,13 @@ case ${1-} in
     ;;
 esac
 top=$(cd -- "$(dirname -- "$(readlink -f -- "$0")")" && pwd) || stop 3 'not built: the folder of list.sh cannot be entered'
-program=$top/target/bin/sheetlist
+program=$top/crates/sheetlist/out/sheetlist
 { exec 7>&1 7>&-; } 2>/dev/null || stop 4 'standard output is closed'
 open_message "${1-$top/examples/empty-chest.msg}"
-for tool in rt flock; do
+for tool in rt flock awk; do
     command -v "$tool" >/dev/null || stop 3 "not built: $tool is not there"
 done
+told=''
 work=$(mktemp -d) || stop 3 'not built: no temporary folder can be made'
 trap 'rm -rf "$work"' EXIT
 : >"$work/log"

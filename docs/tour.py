@@ -16,7 +16,7 @@ def read_crates():
     """For each crate of the repository the crates that its line names, and what the line says of it."""
     crates = {}
     for line in (ROOT / "crates.txt").read_text(encoding="utf-8").splitlines():
-        found = re.fullmatch(r"(\w+):([\w ]*)# (.+)", line)
+        found = re.fullmatch(r"(\w+)(?: staticlib)?:([\w ]*)# (.+)", line)
         if found:
             crates[found[1]] = (found[2].split(), found[3])
         elif line and not line.startswith("#"):

@@ -134,7 +134,7 @@ measured() {
 }
 
 if [ -z "$library" ] || [ ! -f "$library/$archive" ]; then
-    lacking "The archive $archive is not there. Build it with rt staticlib $crate, or set MSDTP_LIB_DIR to its folder."
+    lacking "The archive $archive is not there. Build it with bash archive.sh, or set MSDTP_LIB_DIR to its folder."
 fi
 for example in measure changes salvage why sheet; do
     check "C example $example: build" build_c "$example"

@@ -47,7 +47,7 @@ run_checks() {
     check "$1: exit status of the checks" test "$status" -eq 0
 }
 
-[ -f "$archive" ] || lacking 'The archive libmsdtp.a is not there. Build it with rt staticlib msdtp, or set MSDTP_LIB_DIR to its folder.'
+[ -f "$archive" ] || lacking 'The archive libmsdtp.a is not there. Build it with bash archive.sh, or set MSDTP_LIB_DIR to its folder.'
 version=$(sed -nE 's/^version = "(.*)"$/\1/p' bindings/rust/Cargo.toml)
 printf '#include "msdtp.h"\n#include "msdtp.h"\n' >"$folder/alone.c"
 lines_after 'AN EXAMPLE' 'It prints' >"$folder/example.c"

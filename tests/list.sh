@@ -6,25 +6,23 @@ cd "$(dirname "$0")/.." || exit 1
 . tests/tally.sh
 work=$folder
 copy="$work/a copy"
-program=target/bin/sheetlist
-if [ ! -x "$program" ] || [ ! -f target/stamp/sheetlist ]; then
-    lacking 'tests/list.sh: build target/bin/sheetlist (rt check sheetlist) first'
+program=crates/sheetlist/out/sheetlist
+if [ ! -x "$program" ]; then
+    lacking 'tests/list.sh: build crates/sheetlist/out/sheetlist (rt run in crates/sheetlist) first'
 fi
-mkdir -p "$copy/target" "$work/stub" "$work/none" "$work/tools"
+mkdir -p "$copy" "$work/stub" "$work/none" "$work/tools"
 cp -R crates.txt crates examples list.sh "$copy"
-cp -R target/bin target/stamp "$copy/target"
 cp "$program" "$work/program"
 : >"$work/nothing"
 
 # What rt is replaced by where nothing is to be proved: it waits to be let go, tells of one crate and builds a given program. It
-# fails where another one runs beside it.
+# fails where another one runs beside it. It is run in the folder of each crate in turn.
 cat >"$work/stub/rt" <<END
 #!/bin/sh
 mkdir '$work/busy' || exit 1
 until [ -e '$work/go' ]; do sleep 0.05; done
-echo 'rt: format proved (1 s)'
-mkdir -p target/bin
-cp '$work/program' target/bin/sheetlist
+case \$PWD in */format) echo 'rt: format: begins with nothing' ;; esac
+case \$PWD in */sheetlist) mkdir -p out && cp '$work/program' out/sheetlist ;; esac
 rmdir '$work/busy'
 END
 printf '#!/bin/sh\necho "rt: sheetlist NOT PROVED"\nexit 1\n' >"$work/none/rt"
@@ -119,7 +117,7 @@ bash "$copy/list.sh" >&- 2>"$work/err"
 not_written 'a closed output' 'list.sh: standard output is closed'
 
 # Without rt, and with one that proves nothing.
-for tool in dirname readlink mktemp rm cat flock; do
+for tool in dirname readlink mktemp rm cat flock awk; do
     ln -s "$(command -v "$tool")" "$work/tools/$tool"
 done
 bash=$(command -v bash)
@@ -147,11 +145,11 @@ soon() {
 ran() {
     mv "$work/out.$1" "$work/out"
     mv "$work/err.$1" "$work/err"
-    [ "$ended" -eq 0 ] && cmp -s "$work/out" "$work/measure" && grep -qx 'list.sh: format proved (1 s)' "$work/err"
+    [ "$ended" -eq 0 ] && cmp -s "$work/out" "$work/measure" && grep -qE '^list.sh: format proved \([0-9]+ s\)$' "$work/err"
 }
 
 # A first run says at once that it proves, and names the crate; two at once wait for each other.
-rm "$copy/target/bin/sheetlist"
+rm "$copy/crates/sheetlist/out/sheetlist"
 ended=none
 bash "$copy/list.sh" "$work/-" >"$work/out.1" 2>"$work/err.1" &
 first=$!
@@ -178,7 +176,7 @@ mkfifo "$work/pipe"
 exec 5<>"$work/pipe"
 bash "$copy/list.sh" - <"$work/pipe" >"$work/out.1" 2>"$work/err.1" 5>&- &
 first=$!
-soon grep -qsx 'list.sh: format proved (1 s)' "$work/err.1"
+soon grep -qsE '^list.sh: format proved \([0-9]+ s\)$' "$work/err.1"
 sleep 0.5
 timeout 10 bash "$copy/list.sh" "$work/-" >"$work/out.2" 2>"$work/err.2" 5>&-
 ended=$?

@@ -4,7 +4,7 @@
 # written. Ends with 'N passed, M failed'.
 set -u
 cd "$(dirname "$0")/.." || exit 1
-program=target/bin/sheetlist
+program=crates/sheetlist/out/sheetlist
 second=second/target/release/second
 examples=14
 vectors=1067
@@ -12,7 +12,7 @@ unread='sheetlist: the sheet could not be read to its end; nothing is listed'
 unwritten='sheetlist: the listing could not be written'
 . tests/tally.sh
 if [ ! -x "$program" ] || [ ! -x "$second" ]; then
-    lacking 'listings.sh: build target/bin/sheetlist (rt check sheetlist) and second/ (cargo build --release) first'
+    lacking 'listings.sh: build crates/sheetlist/out/sheetlist (rt run in crates/sheetlist) and second/ (cargo build --release) first'
 fi
 
 # The program lists the message of $folder/message, and says nothing on standard error.

@@ -402,7 +402,8 @@ def convert(crate, path, names, report):
                 label = re.match(r"\)*\s*-- ([\w\-']+)", body[at:])
                 if said in ("search rules", "omega arith") or not label:
                     continue
-                answers.append(("LIST", label.group(1), said))
+                heads = re.findall(r"([\w\-]+)-lts\.spec\b", body[:m.start()])
+                answers.append(("LIST", label.group(1), (said, heads[-1] if heads else "")))
             continue
         f, what = member(sig)
         if f is None:
@@ -436,7 +437,7 @@ def convert(crate, path, names, report):
         places_used.add((f, new))
         b = Body(fn, place, False, helper_names, None)
         t = "\n".join(lines)
-        t = re.sub(r"\(c : [^()]*(?:\([^()]*\))?[^()]*?(?:tie|lts)\.[\w'\-]+\)", f"(c : {f + '-' if is_cycle and f else ''}{new}{' t' if is_cycle else ''})", t, count=1)
+        t = re.sub(r"\(c : [^()]*(?:\([^()]*\))?[^()]*?(?:tie|lts)\.[\w'\-]+\)", f"(c : {f + '-' if len(fns) > 1 and f else ''}{new}{' t' if is_cycle else ''})", t, count=1)
         t = b.turn(t)
         for other, said in inlined.items():
             t = re.sub(r"(?<![\w\-])" + re.escape(other) + r"( t)? (?:\(\(LEFT-place [^)]*\)\)|\(LEFT-place [^)]*\))", lambda m: "(" + said + ")", t)
@@ -449,9 +450,13 @@ def convert(crate, path, names, report):
     names_seen = {}
     for kind, n, rest in answers:
         if kind == "LIST":
-            label, body = n, rest
+            label, (body, of) = n, rest
             f, fn = None, None
             if is_cycle:
+                f = next((k for k in fns if norm(k) == norm(of)), None)
+                if f is not None and fns[f].need(label) is None and "-" in label:
+                    label = label.split("-", 1)[1]
+            if is_cycle and f is None:
                 for k in sorted(fns, key=len, reverse=True):
                     if norm(label).startswith(norm(k) + "_"):
                         f, label = k, label[len(k) + 1:]
@@ -493,7 +498,7 @@ def convert(crate, path, names, report):
                 continue
             old, new = fn.needs[i]
             place = fn.place(fn.asked[i][0])
-        full = f"{f}-{new}" if is_cycle else new
+        full = f"{f}-{new}" if len(fns) > 1 else new
         if full in names_seen:
             report.append(f"{path}: twice {full}: {n} and {names_seen[full]}")
         names_seen[full] = n
@@ -536,7 +541,7 @@ def convert(crate, path, names, report):
             break
     out = lead + uses + [f"use {mod}.Goals as goal"]
     if places_used:
-        out.append(f"use {mod}.Goals.{{" + ", ".join(sorted((f + '-' if is_cycle and f else '') + p for f, p in places_used)) + "}")
+        out.append(f"use {mod}.Goals.{{" + ", ".join(sorted((f + '-' if len(fns) > 1 and f else '') + p for f, p in places_used)) + "}")
     if done:
         with open(os.path.join(folder, "Answers.antt"), "w", encoding="utf-8") as it:
             it.write("\n".join(out) + "\n\n" + "\n\n".join(done) + "\n")
@@ -556,7 +561,7 @@ def convert(crate, path, names, report):
                 if norm(l[0][0]) == norm(loop) or len(info) == 1:
                     new_loop = l[0][1]
                     fields = [f"l.initial.{v}" if ch else f"l.{v}" for v, ch in zip(l[1], changed)] + [f"l.{v}" for v, ch in zip(l[1], changed) if ch]
-            word = ("invariant-" if is_inv else "decreases-") + (f"{f}-" if is_cycle else "") + new_loop
+            word = ("invariant-" if is_inv else "decreases-") + (f"{f}-" if len(fns) > 1 else "") + new_loop
             if fields is None or len(fields) != len(binders):
                 report.append(f"{path}: {n}: binders {binders} are not {fields}")
                 fields = ["l." + x for x in binders]

@@ -28,7 +28,7 @@ fn folder() -> PathBuf {
 
 fn refuse(archive: &Path) -> ! {
     eprintln!("{} is not there.", archive.display());
-    eprintln!("Build it with `rt staticlib msdtp` in the repository's root,");
+    eprintln!("Build it with `bash archive.sh` in the repository's root,");
     eprintln!("or set MSDTP_LIB_DIR to the folder that has it.");
     exit(1)
 }

@@ -1,6 +1,6 @@
 /*
  * Prints the figures of a measure sheet and its normal form, or why there are no
- * figures. From the repository's root, once `rt staticlib msdtp` has made the
+ * figures. From the repository's root, once `bash archive.sh` has made the
  * archive:
  *
  *   gcc -std=c99 -Wall -Wextra -pedantic -Iinclude examples/c/measure.c target/staticlib/libmsdtp.a -o target/measure

@@ -1,7 +1,7 @@
 /*
  * Salvages a damaged message: writes what can be kept of it to a new file, and
- * prints what was changed, and why. From the repository's root, once `rt staticlib
- * msdtp` has made the archive:
+ * prints what was changed, and why. From the repository's root, once `bash
+ * archive.sh` has made the archive:
  *
  *   gcc -std=c99 -Wall -Wextra -pedantic -Iinclude examples/c/salvage.c target/staticlib/libmsdtp.a -o target/salvage
  *   target/salvage examples/damaged-batch.msg target/mended.msg

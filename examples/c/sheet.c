@@ -1,6 +1,6 @@
 /*
  * Writes a measure sheet to standard output. From the repository's root, once
- * `rt staticlib msdtp` has made the archive:
+ * `bash archive.sh` has made the archive:
  *
  *   gcc -std=c99 -Wall -Wextra -pedantic -Iinclude examples/c/sheet.c target/staticlib/libmsdtp.a -o target/sheet
  *   target/sheet 4711 tenths 1016 864 650 >target/sheet.msg

@@ -1,7 +1,7 @@
 /*
  * Prints why a message is refused, for the person at the bench: what is wrong and
  * where, what to look at, and inside what it stands. From the repository's root, once
- * `rt staticlib msdtp` has made the archive:
+ * `bash archive.sh` has made the archive:
  *
  *   gcc -std=c99 -Wall -Wextra -pedantic -Iinclude examples/c/why.c target/staticlib/libmsdtp.a -o target/why
  *   target/why examples/mixed-figures.msg
