@@ -7,8 +7,8 @@ use format::kinds::{BITS, STRING, STRUC};
 // Whether `count` words of the one table, from `i` on, are those of the other from `j` on. What differs is joined and tested at the
 // end, with no way out of this loop, so that the compiler takes several words at a time.
 fn same_words(left: &[u64], right: &[u64], i: usize, j: usize, count: usize) -> bool
-    requires count_in_bounds { i + count ≤ length left.now }
-    requires count_in_bounds_2 { j + count ≤ length right.now }
+    requires left_in { i + count ≤ length left.now }
+    requires right_in { j + count ≤ length right.now }
     ensures { result ≡ same_words left.now right.now i j count }
 {
     let mut joined: u64 = 0;
@@ -22,8 +22,8 @@ fn same_words(left: &[u64], right: &[u64], i: usize, j: usize, count: usize) -> 
 
 // The same of the data words of two rows, `count` of each.
 fn same_data(left: &[u64], right: &[u64], p: usize, q: usize, count: usize) -> bool
-    requires data_in { DataIn left.now p count }
-    requires data_in_2 { DataIn right.now q count }
+    requires left_data { DataIn left.now p count }
+    requires right_data { DataIn right.now q count }
     ensures { result ≡ same_words left.now right.now (data_from left.now p) (data_from right.now q) count }
 {
     let i = 3 * (left[0] as usize) + 4 + (left[3 * p + 6] as usize);

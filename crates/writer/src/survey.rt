@@ -58,7 +58,7 @@ fn fours_until(table: &[u64], p: usize, to: usize, kind: u64, bound: u64) -> usi
 fn small_until(table: &[u64], p: usize, to: usize, kind: u64, bound: u64) -> usize
     requires { Room table.now p to × (0 < bound) }
     ensures small_rows { SmallRows table.now kind bound p to result }
-    ensures fact { result < to → Small table.now kind bound result → ⊥ }
+    ensures stops { result < to → Small table.now kind bound result → ⊥ }
 {
     let mut q = fours_until(table, p, to, kind, bound);
     while q < to {

@@ -4,13 +4,13 @@ use Rattle.writer.proofs.Surveying.{small_on}
 use Rattle.writer.proofs.survey.small_until.Goals as goal
 
 pub returns-then-strange-ne0 : goal.returns-then-strange-ne0
-returns-then-strange-ne0 c = record { small_rows = c.loop-q.invariant; fact = λ l s. c.if-strange-ne0.true (c.strange.ensures.value s) }
+returns-then-strange-ne0 c = record { small_rows = c.loop-q.invariant; stops = λ l s. c.if-strange-ne0.true (c.strange.ensures.value s) }
 
 pub loop-q-preserved : goal.loop-q-preserved
 loop-q-preserved c = small_on _ _ _ _ _ _ c.loop-q.invariant c.loop-q-test.true (c.strange.ensures.small c.if-strange-ne0.false)
 
 pub returns : goal.returns
-returns c = record { small_rows = c.loop-q.invariant; fact = λ l s. omega (arith, c.loop-q-test.false) }
+returns c = record { small_rows = c.loop-q.invariant; stops = λ l s. omega (arith, c.loop-q-test.false) }
 
 pub loop-q-init : goal.loop-q-init
 loop-q-init c = c.fours_until-q.ensures

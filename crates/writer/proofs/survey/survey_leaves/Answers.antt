@@ -12,7 +12,7 @@ here c =
 pub returns-then-next-p : goal.returns-then-next-p
 returns-then-next-p c =
     no_char (here (goal.at.returns-then-next-p c).After-shared_slice_known-1) c.if-kind-eq-CHAR.true
-    (small_stops _ _ _ _ _ _ c.small_until-next.ensures.fact c.requires.p_lt_to.0 c.if-next-p.true)
+    (small_stops _ _ _ _ _ _ c.small_until-next.ensures.stops c.requires.p_lt_to.0 c.if-next-p.true)
 
 pub returns-then-kind-eq-CHAR : goal.returns-then-kind-eq-CHAR
 returns-then-kind-eq-CHAR c = chars_passed (here (goal.at.returns-then-kind-eq-CHAR c).After-shared_slice_known-1) _ c.small_until-next.ensures.small_rows c.if-next-p.false
