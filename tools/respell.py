@@ -11,7 +11,7 @@ import re
 
 TOKEN = re.compile(r"[^\W\d][\w'\u2032\-]*")
 USE = re.compile(r"(?m)^\s*(?:pub )?use ([^\s{]+?)(?:\.\{([^}]*)\})?(?: as \S+)?$")
-OWN_PROOF = re.compile(r"/(Proof|Answers|Invariants)\.antt$")
+OWN_PROOF = re.compile(r"/proofs/.*/(Proof|Answers|Invariants)\.antt$")
 # Fields of records that were told from a name of src/ by a dash alone, and constructors, which are no lemmas.
 FIELDS = {"chest-um": "chest_um", "waist-um": "waist_um", "sleeve-um": "sleeve_um"}
 CASES = {"in-contents": "in_contents_case", "kinds-apart": "kinds_apart_case"}

@@ -151,13 +151,12 @@ class Body:
         comps = list(comps)
         while comps and comps[0] == "before":
             up = fn.above(place)
-            if up is None:
-                self.left.append(f"no place above {place}")
-                return None
-            place, comps = up, comps[1:]
+            # some places of the older kit are gone: past the first one, stay there
+            place, comps = up or place, comps[1:]
         if not comps:
             return ("place", place)
         step = comps[0]
+        place = self.with_step(place, step)
         p = fn.places[place]
         arm = fn.arms.get(place)
         if arm:
@@ -200,6 +199,28 @@ class Body:
             return ("path", [new] + comps[1:]) if new else ("path", comps)
         self.left.append(f"{place}: {'.'.join(comps)} (step {old} -> {new}, arm {arm})")
         return ("path", comps)
+
+    def with_step(self, place, step):
+        """The place itself if the step is its own, else the nearest one above, else below, that has the step."""
+        fn = self.fn
+
+        def has(at):
+            arm = fn.arms.get(at)
+            return norm(fn.places[at][2][0]) == norm(step) or bool(arm and any(norm(first) == norm(step) for _, first, _ in arm[2]))
+
+        at = place
+        while at:
+            if has(at):
+                return at
+            at = fn.above(at)
+        chain, at = [], self.env["c"][0]
+        while at and at != place:
+            chain.append(at)
+            at = fn.above(at)
+        for at in reversed(chain):
+            if has(at):
+                return at
+        return place
 
     def clause(self, comps, named):
         """The parts of several clauses were a pair each; now they have names."""
@@ -245,7 +266,7 @@ class Body:
             rest = list(comps)
             at = place
             while rest and rest[0] == "before":
-                at, rest = self.fn.above(at), rest[1:]
+                at, rest = self.fn.above(at) or at, rest[1:]
             if not rest:
                 self.env[var] = (at, [])
             elif len(rest) == 1 or rest[-1] in ("given", "args", "new") or (rest in (["requires"], ["requires", "1"]) and (self.fn.data["pre"] or self.is_cycle)) or (rest[-1] == "ensures" and self.fn.clauses.get(at)) or (len(rest) <= 2 and rest[0] in ("loop",)) or re.match(r"^(given)$", rest[1] if len(rest) > 1 else ""):
@@ -498,6 +519,9 @@ def convert(crate, path, names, report):
                 continue
             old, new = fn.needs[i]
             place = fn.place(fn.asked[i][0])
+        if place is None:
+            report.append(f"{path}: no place {fn.asked[i]} for {new}")
+            continue
         full = f"{f}-{new}" if len(fns) > 1 else new
         if full in names_seen:
             report.append(f"{path}: twice {full}: {n} and {names_seen[full]}")

@@ -1,7 +1,5 @@
 -- A container closes over its elements' rows and data words as its items say. Assumes nothing.
 use Rattle.std.proofs.Common.{◌≡◌, ℕ, suc, ◌+◌, ◌-◌, ◌*◌, ◌<◌, ◌≤◌, Bool, true, false, List, [], ◌∷◌, ◌++◌, length, take, drop, sym, refl, ap, ◌∙◌, ap₂, append-nil, mul-le-mul_left, one-mul, add-one, arith, length-drop, length-take-le, take-take, drop-drop}
-use types.Run.{OneOf, miss}
-use denote.Enum.Declared.{tag_of}
 use Rattle.format.specs.Choice.{pick, both}
 use Rattle.format.specs.Items.{Group, struc, edt, Items, end, group, times, is_string, uniform, edt_rule}
 use Rattle.format.specs.Tables.{count, is_text, rows, text_words, data_words, container_kind, row_kind, group_b, row_words}
@@ -14,7 +12,6 @@ use Rattle.format.proofs.Parts.{rest_part, middle_part}
 use Rattle.format.specs.Runs.{object_at}
 use Rattle.format.proofs.Counts.{words, times_zero, rows_times, count_times, words_times, count_rows}
 use Rattle.format.proofs.TableLaws.{row_length}
-use Rattle.wire.specs.contracts.head.Wrap.{the_type}
 use Rattle.wire.specs.declared.head.Wrap.{Wrap}
 use Rattle.wire.specs.declared.head.Wrap.TheVariants.{Struc, Ustruc, Edt, Repeat}
 use Rattle.wire.specs.declared.head.Head.TheVariants.{Text, Open}
@@ -33,18 +30,18 @@ use Rattle.fill.proofs.AgainLaws.{again_length}
 use Rattle.fill.proofs.RowLaws.{rows_again, words_again}
 
 -- ---- by the code's match
-pub is_group : (w : Wrap) → OneOf (0 ∷ 1 ∷ 2 ∷ []) (tag_of the_type w) → (copies_of w ≡ 1) × (own_words w ≡ 3)
+pub is_group : (w : Wrap) → ((n : ℕ) → w ≡ Repeat n → ⊥) → (copies_of w ≡ 1) × (own_words w ≡ 3)
 unfolding copies_of own_words
 is_group Struc k = (refl, refl)
 is_group Ustruc k = (refl, refl)
 is_group Edt k = (refl, refl)
-is_group (Repeat n) k = absurd (miss (0 ∷ 1 ∷ 2 ∷ []) 3 tt k)
+is_group (Repeat n) k = absurd (k n refl)
 
-pub other_kind : (w : Wrap) → OneOf (0 ∷ 1 ∷ 3 ∷ []) (tag_of the_type w) → kind_of w ≡ 7
+pub other_kind : (w : Wrap) → (w ≡ Edt → ⊥) → kind_of w ≡ 7
 unfolding kind_of
 other_kind Struc k = refl
 other_kind Ustruc k = refl
-other_kind Edt k = absurd (miss (0 ∷ 1 ∷ 3 ∷ []) 2 tt k)
+other_kind Edt k = absurd (k refl)
 other_kind (Repeat n) k = refl
 
 -- ---- an accepted container has accepted contents, and comes to what it closes to

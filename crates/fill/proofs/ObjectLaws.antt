@@ -1,15 +1,12 @@
 -- One object of the walk: what it asks, and what it writes. Assumes nothing.
 use Rattle.std.proofs.Common.{◌≡◌, ℕ, ◌+◌, ◌-◌, ◌≤◌, Bool, List, ◌++◌, length, take, drop, sym, ap, ◌∙◌, ap₂, arith}
-use types.Run.{OneOf}
-use denote.Enum.Declared.{tag_of}
 use Rattle.format.specs.Items.{end}
-use Rattle.format.specs.Tables.{count, rows}
 use Rattle.format.specs.Objects as O
 use Rattle.format.specs.Messages.{got}
 use Rattle.format.specs.Answers.{over}
 use Rattle.format.proofs.TableLaws.{row_length}
-use Rattle.wire.specs.contracts.head.Head.{the_type}
 use Rattle.wire.specs.declared.head.Head.{Head}
+use Rattle.wire.specs.declared.head.Head.TheVariants.{Text, Open}
 use Rattle.wire.specs.declared.head.Wrap.{Wrap}
 use Rattle.wire.specs.Heads.{HeadIs}
 use Rattle.fill.specs.declared.plain.Placed.{Placed}
@@ -20,7 +17,7 @@ use Rattle.fill.specs.Walks.{ObjectFits, Laid, ObjectFilled}
 use Rattle.format.specs.Lent.{over_at}
 use Rattle.format.proofs.Over.{over_length, part_length, lent, back_length}
 use Rattle.fill.proofs.Regions.{front_over, back_over, front_at, back_at}
-use Rattle.fill.proofs.PlainLaws.{Shown, plain_tags, object_shown}
+use Rattle.fill.proofs.PlainLaws.{Shown, object_shown}
 use Rattle.fill.proofs.LaidLaws.{laid_none}
 use Rattle.fill.proofs.ContainerLaws.{Opened, closed_none}
 
@@ -29,9 +26,9 @@ module _ {d b : ℕ} {s : List ℕ} {base gap : ℕ} {t : List ℕ} (f : ObjectF
   data_at_lem = (omega arith, omega arith)
 
   -- no container and no string
-  module _ (h : Head) (k : OneOf plain_tags (tag_of the_type h)) (e : HeadIs s h (O.head_of d b s)) where
+  module _ (h : Head) (nt : (a n : ℕ) → h ≡ Text a n → ⊥) (ko : (w : Wrap) (a n : ℕ) → h ≡ Open w a n → ⊥) (e : HeadIs s h (O.head_of d b s)) where
     shown : Shown s h f.items f.past
-    shown = object_shown d b s f.items f.past f.said h k e
+    shown = object_shown d b s f.items f.past f.said h nt ko e
 
     pub plain_words_lem : length (plain_words s h) ≤ length (take (length t - (gap + base)) (drop (gap + base) t))
     plain_words_lem = rw (← shown.words_are, part_length (gap + base) t) (omega arith)

@@ -1,7 +1,5 @@
 -- An object that is no container: its rows and its data words, by its head. Assumes nothing.
 use Rattle.std.proofs.Common.{◌≡◌, ℕ, suc, ◌+◌, ◌-◌, ◌/◌, ◌<◌, ◌≤◌, Bool, List, [], ◌∷◌, ◌++◌, length, take, drop, sym, refl, ap, ◌∙◌, subst, append-nil, arith}
-use types.Run.{OneOf, miss}
-use denote.Enum.Declared.{tag_of}
 use Rattle.format.specs.Bits.{spread, packed, bytes_for, words_for}
 use Rattle.format.specs.Items.{Leaf, bits, Items, end, one, leaf_kind}
 use Rattle.format.specs.Tables.{count, rows, in_words, leaf_words, data_words, leaf_a, leaf_b, row_words}
@@ -11,7 +9,7 @@ use Rattle.format.specs.Messages.{Outcome, got, object, reads}
 use Rattle.format.proofs.Choices.{split}
 use Rattle.format.specs.Runs.{object_at}
 use Rattle.format.proofs.BitLaws.{packed_length}
-use Rattle.wire.specs.contracts.head.Head.{the_type}
+use Rattle.wire.specs.declared.head.Wrap.{Wrap}
 use Rattle.wire.specs.declared.head.Head.{Head}
 use Rattle.wire.specs.declared.head.Head.TheVariants.{Stop, Gap, Row, Sbits, Lbits, Text, Open}
 use Rattle.wire.specs.Heads.{HeadIs, IsRow, IsSbits, bits_from}
@@ -58,10 +56,6 @@ sbits_words bs n w r =
     (λ z. let e : (n + 63) / 64 ≡ 0 = omega arith in rw e refl)
 
 -- ---- by the code's head
--- the places in the enum of all but the string and the container
-abbrev pub plain_tags : List ℕ
-plain_tags = 0 ∷ 1 ∷ 2 ∷ 3 ∷ 4 ∷ []
-
 pub head_apt : (s : List ℕ) (h : Head) (m : O.Head) → HeadIs s h m → Apt s h
 unfolding Apt
 head_apt s (Stop f) m e = tt
@@ -80,47 +74,54 @@ module _ (s : List ℕ) (inside : ℕ → ℕ → Outcome) (xs : Items) (u : ℕ
       let q : v ≡ u = cc in
       subst (λ z. Shown s h z u) p (subst (Shown s h ys) q r)
 
-  plain_shown : (h : Head) (m : O.Head) → OneOf plain_tags (tag_of the_type h) → HeadIs s h m → object inside m ≡ got xs u → Shown s h xs u
+  plain_shown : (h : Head) (m : O.Head) → ((a n : ℕ) → h ≡ Text a n → ⊥) → ((w : Wrap) (a n : ℕ) → h ≡ Open w a n → ⊥) → HeadIs s h m → object inside m ≡ got xs u → Shown s h xs u
   unfolding object plain_words plain_rows plain_placed
-  plain_shown (Stop x) m t e f =
+  plain_shown (Stop x) m nt ko e f =
       let z : ◌≡◌ {A = ℕ} 0 1 = cc in
       absurd (omega arith)
-  plain_shown Gap m t e f = given Gap m end 0 e f (shown_gap s)
-  plain_shown (Row k v w) m t e f = given (Row k v w) m (one e.0) w e.1 f (shown_row s e.0 k v w e.2)
-  plain_shown (Sbits n w v) m t e f =
+  plain_shown Gap m nt ko e f = given Gap m end 0 e f (shown_gap s)
+  plain_shown (Row k v w) m nt ko e f = given (Row k v w) m (one e.0) w e.1 f (shown_row s e.0 k v w e.2)
+  plain_shown (Sbits n w v) m nt ko e f =
       given (Sbits n w v) m (one (bits e.0)) v e.1 f
       (shown_bits s (Sbits n w v) e.0 n v e.2.many (sbits_words e.0 n w e.2) (λ base. refl) refl)
-  plain_shown (Lbits a n v) m t e f =
+  plain_shown (Lbits a n v) m nt ko e f =
       given (Lbits a n v) m (one (bits (bits_from s a n))) v e.0 f
       (shown_bits s (Lbits a n v) (bits_from s a n) n v (lbits_length s a n (omega arith)) refl (λ base. refl) refl)
-  plain_shown (Text a n) m t e f = absurd (miss plain_tags 5 tt t)
-  plain_shown (Open w a n) m t e f = absurd (miss plain_tags 6 tt t)
+  plain_shown (Text a n) m nt ko e f = absurd (nt a n refl)
+  plain_shown (Open w a n) m nt ko e f = absurd (ko w a n refl)
 
-pub object_shown : (d b : ℕ) (s : List ℕ) (xs : Items) (u : ℕ) → object_at d b s ≡ got xs u → (h : Head) → OneOf plain_tags (tag_of the_type h) → HeadIs s h (O.head_of d b s)
+-- the head of an SBITSTR is neither
+pub sbits_no_text : (n w u a m : ℕ) → Sbits n w u ≡ Text a m → ⊥
+sbits_no_text n w u a m e = let z : ◌≡◌ {A = ℕ} 0 1 = cc in absurd (omega arith)
+
+pub sbits_no_open : (n w u : ℕ) (v : Wrap) (a m : ℕ) → Sbits n w u ≡ Open v a m → ⊥
+sbits_no_open n w u v a m e = let z : ◌≡◌ {A = ℕ} 0 1 = cc in absurd (omega arith)
+
+pub object_shown : (d b : ℕ) (s : List ℕ) (xs : Items) (u : ℕ) → object_at d b s ≡ got xs u → (h : Head) → ((a n : ℕ) → h ≡ Text a n → ⊥) → ((w : Wrap) (a n : ℕ) → h ≡ Open w a n → ⊥) → HeadIs s h (O.head_of d b s)
     → Shown s h xs u
 unfolding object_at
-object_shown d b s xs u f h t e = plain_shown s (λ i n. reads (suc d) (O.contents s i n)) xs u h (O.head_of d b s) t e f
+object_shown d b s xs u f h nt ko e = plain_shown s (λ i n. reads (suc d) (O.contents s i n)) xs u h (O.head_of d b s) nt ko e f
 
--- a head that writes no row, or no data words, by its place in the enum
-pub no_rows : (s : List ℕ) (h : Head) → OneOf (0 ∷ 1 ∷ 5 ∷ 6 ∷ []) (tag_of the_type h) → (plain_placed h ≡ placed_as 0 0 0 0) × ((base : ℕ) → plain_rows s base h ≡ [])
+-- a head that writes no row, or no data words
+pub no_rows : (s : List ℕ) (h : Head) → ((k v u : ℕ) → h ≡ Row k v u → ⊥) → ((n w u : ℕ) → h ≡ Sbits n w u → ⊥) → ((a n u : ℕ) → h ≡ Lbits a n u → ⊥) → (plain_placed h ≡ placed_as 0 0 0 0) × ((base : ℕ) → plain_rows s base h ≡ [])
 unfolding plain_placed plain_rows
-no_rows s (Stop f) t = (refl, λ base. refl)
-no_rows s Gap t = (refl, λ base. refl)
-no_rows s (Row k v u) t = absurd (miss (0 ∷ 1 ∷ 5 ∷ 6 ∷ []) 2 tt t)
-no_rows s (Sbits n w u) t = absurd (miss (0 ∷ 1 ∷ 5 ∷ 6 ∷ []) 3 tt t)
-no_rows s (Lbits a n u) t = absurd (miss (0 ∷ 1 ∷ 5 ∷ 6 ∷ []) 4 tt t)
-no_rows s (Text a n) t = (refl, λ base. refl)
-no_rows s (Open w a n) t = (refl, λ base. refl)
+no_rows s (Stop f) nr ns nl = (refl, λ base. refl)
+no_rows s Gap nr ns nl = (refl, λ base. refl)
+no_rows s (Row k v u) nr ns nl = absurd (nr k v u refl)
+no_rows s (Sbits n w u) nr ns nl = absurd (ns n w u refl)
+no_rows s (Lbits a n u) nr ns nl = absurd (nl a n u refl)
+no_rows s (Text a n) nr ns nl = (refl, λ base. refl)
+no_rows s (Open w a n) nr ns nl = (refl, λ base. refl)
 
-pub no_words : (s : List ℕ) (h : Head) → OneOf (0 ∷ 1 ∷ 2 ∷ 5 ∷ 6 ∷ []) (tag_of the_type h) → plain_words s h ≡ []
+pub no_words : (s : List ℕ) (h : Head) → ((n w u : ℕ) → h ≡ Sbits n w u → ⊥) → ((a n u : ℕ) → h ≡ Lbits a n u → ⊥) → plain_words s h ≡ []
 unfolding plain_words
-no_words s (Stop f) t = refl
-no_words s Gap t = refl
-no_words s (Row k v u) t = refl
-no_words s (Sbits n w u) t = absurd (miss (0 ∷ 1 ∷ 2 ∷ 5 ∷ 6 ∷ []) 3 tt t)
-no_words s (Lbits a n u) t = absurd (miss (0 ∷ 1 ∷ 2 ∷ 5 ∷ 6 ∷ []) 4 tt t)
-no_words s (Text a n) t = refl
-no_words s (Open w a n) t = refl
+no_words s (Stop f) ns nl = refl
+no_words s Gap ns nl = refl
+no_words s (Row k v u) ns nl = refl
+no_words s (Sbits n w u) ns nl = absurd (ns n w u refl)
+no_words s (Lbits a n u) ns nl = absurd (nl a n u refl)
+no_words s (Text a n) ns nl = refl
+no_words s (Open w a n) ns nl = refl
 
 -- ---- the data words of an SBITSTR, none or one
 pub sbits_none : (s : List ℕ) (n w u : ℕ) → n ≡ 0 → plain_words s (Sbits n w u) ≡ []

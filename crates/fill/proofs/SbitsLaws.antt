@@ -1,9 +1,8 @@
 -- An SBITSTR put in place without its head: what it asks, and what it writes. Assumes nothing.
 use Rattle.std.proofs.Common.{◌≡◌, ℕ, ◌+◌, ◌/◌, ◌<◌, ◌≤◌, ◌≢◌, List, [], ◌∷◌, length, take, drop, set, sym, ap, ◌∙◌, ap₂, arith, length-drop}
 use lib.Seq.{take-set-le, drop-set-add}
-use types.Run.{hit}
 use Rattle.format.specs.Bits.{words_for}
-use Rattle.format.specs.Tables.{count, rows, data_words}
+use Rattle.format.specs.Tables.{rows, data_words}
 use Rattle.format.specs.Messages.{got}
 use Rattle.format.specs.Answers.{over}
 use Rattle.format.specs.Objects as O
@@ -14,7 +13,7 @@ use Rattle.fill.specs.Walks.{ObjectFits, ObjectFilled}
 use Rattle.format.specs.Lent.{over_at}
 use Rattle.format.proofs.Over.{at_none, set_at}
 use Rattle.fill.proofs.Regions.{front_over, back_over}
-use Rattle.fill.proofs.PlainLaws.{Shown, plain_tags, object_shown, sbits_none, sbits_one}
+use Rattle.fill.proofs.PlainLaws.{Shown, object_shown, sbits_no_text, sbits_no_open, sbits_none, sbits_one}
 
 -- ---- what is written
 -- the place of its word
@@ -55,7 +54,7 @@ module _ (b : ℕ) (s : List ℕ) (n base gap : ℕ) (t : List ℕ) (h : 3 ≤ g
 -- ---- as an object of the walk
 module _ {d b : ℕ} {s : List ℕ} {base gap : ℕ} {t : List ℕ} (f : ObjectFits d b s base gap t) {n : ℕ} (x : BitsAt b s n) where
   shown : Shown s (sbits_head b s n) f.items f.past
-  shown = object_shown d b s f.items f.past f.said (sbits_head b s n) (hit plain_tags 3 tt) (x.head d)
+  shown = object_shown d b s f.items f.past f.said (sbits_head b s n) (sbits_no_text _ _ _) (sbits_no_open _ _ _) (x.head d)
 
   pub sbits_room : (n ≤ 63) × (O.following b ≤ length s) × (3 ≤ gap) × (gap + (base + words_for n) ≤ length t)
   unfolding plain_placed

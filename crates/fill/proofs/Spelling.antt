@@ -1,8 +1,6 @@
 -- The codes of a run that says only CHARs, object by object. Assumes nothing.
 use Rattle.std.proofs.Common.{◌≡◌, ℕ, zero, suc, ◌+◌, ◌-◌, ◌*◌, ◌<◌, ◌≤◌, true, false, List, [], ◌∷◌, ◌++◌, length, get_or, take, drop, sym, refl, ap, ◌∙◌, subst, zero-le, arith, length-append, length-drop, length-take-le, get_or-append-add}
 use lib.ListN.{get_or-append}
-use types.Run.{OneOf}
-use denote.Enum.Declared.{tag_of}
 use Rattle.format.specs.Choice.{both}
 use Rattle.format.specs.Items.{Items, end, leaf, group, join, times, is_string}
 use Rattle.format.specs.Tables.{count, codes, leaf_b}
@@ -11,11 +9,11 @@ use Rattle.format.specs.Messages.{says, reads}
 use Rattle.format.proofs.Choices.{clash, split, split_eq, both_left, both_right}
 use Rattle.format.proofs.Counts.{count_join, count_times, times_suc, times_zero}
 use Rattle.format.proofs.TableLaws.{codes_length}
-use Rattle.wire.specs.contracts.head.Head.{the_type}
 use Rattle.wire.specs.Ranges.{Between}
 use Rattle.wire.specs.declared.head.Wrap.{Wrap}
 use Rattle.wire.specs.declared.head.Wrap.TheVariants.{Struc, Ustruc, Edt, Repeat}
 use Rattle.wire.specs.declared.head.Head.{Head}
+use Rattle.wire.specs.declared.head.Head.TheVariants.{Open}
 use Rattle.wire.specs.Heads.{HeadIs}
 use Rattle.fill.specs.Copies.{again}
 use Rattle.fill.specs.Containers.{copies_of, closed_items}
@@ -174,7 +172,7 @@ module _ {d : ℕ} {s : List ℕ} {n : ℕ} {t₀ t : List ℕ} {i to : ℕ} (v 
         both_right (is_string v.xs) (is_string here.ys) (both_left (both (is_string v.xs) (is_string here.ys)) (is_string here.zs) e)
 
     -- it is a repeat, or nothing that could stand here
-    pub never : 0x80 ≤ b → b < 0xff → (x : Head) → OneOf (0 ∷ 1 ∷ 2 ∷ 3 ∷ 4 ∷ 5 ∷ []) (tag_of the_type x) → HeadIs S x (O.head_of d b S) → ⊥
+    pub never : 0x80 ≤ b → b < 0xff → (x : Head) → ((w : Wrap) (a c : ℕ) → x ≡ Open w a c → ⊥) → HeadIs S x (O.head_of d b S) → ⊥
     never l m x k e =
         let f : is_string here.ys ≡ false =
         split_eq b 0xc4 (λ q. repeat_none d b S q x k e here.ys here.past here.here) (λ q. no_chars d b S l q m here.ys here.past here.here) in

@@ -1,6 +1,6 @@
 -- The rows of a stretch, one object more at a time. Assumes nothing.
 use Rattle.std.proofs.Common.{◌≡◌, ℕ, ◌+◌, ◌-◌, ◌*◌, ◌/◌, ◌%◌, ◌<◌, ◌≤◌, Bool, true, eqb, List, [], ◌∷◌, length, get_or, take, drop, sym, refl, ap, ◌∙◌, subst, add-zero, arith, length-drop}
-use Rattle.format.specs.Items.{Leaf, end, leaf, one, join}
+use Rattle.format.specs.Items.{Leaf, end, one, join}
 use Rattle.format.specs.Numbers.{twos}
 use Rattle.format.specs.Objects.{following, integer}
 use Rattle.format.specs.Tables.{rows, count, data_words, row_words}

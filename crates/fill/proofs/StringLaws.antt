@@ -1,7 +1,5 @@
 -- Whether a run says only CHARs, told object by object. Assumes nothing.
-use Rattle.std.proofs.Common.{◌≡◌, ℕ, zero, suc, ◌+◌, ◌-◌, ◌/◌, ◌<◌, ◌≤◌, Bool, true, false, not, eqb, ◌≢◌, List, [], ◌∷◌, ◌++◌, length, get_or, take, drop, sym, refl, ap, ◌∙◌, subst, zero-le, arith, drop-drop}
-use types.Run.{OneOf, miss}
-use denote.Enum.Declared.{tag_of}
+use Rattle.std.proofs.Common.{◌≡◌, ℕ, zero, suc, ◌+◌, ◌-◌, ◌/◌, ◌<◌, ◌≤◌, Bool, true, false, eqb, ◌≢◌, List, [], ◌∷◌, ◌++◌, length, get_or, take, drop, sym, refl, ap, ◌∙◌, subst, zero-le, arith, drop-drop}
 use Rattle.format.specs.Choice.{both}
 use Rattle.format.specs.Items.{Group, Items, end, group, join, times, all_of, group_kind, kinds, is_string, CHAR}
 use Rattle.format.specs.declared.Class.{Class}
@@ -9,7 +7,7 @@ use Rattle.format.specs.declared.Class.TheVariants as C
 use Rattle.format.specs.Classes.{class_of}
 use Rattle.format.specs.Objects as O
 use Rattle.format.specs.Messages.{Object, says, bad, got, object, reads}
-use Rattle.format.proofs.Choices.{held, eq_false, true_eq}
+use Rattle.format.proofs.Choices.{eq_false, true_eq}
 use borrow.Author.Tests.{eqb-false}
 use Rattle.format.proofs.Counts.{kinds_join, times_suc, times_zero}
 use Rattle.format.proofs.HeadCases.{by_repeat}
@@ -17,7 +15,6 @@ use Rattle.format.proofs.OneKind.{KindsBy, class_tells_kind}
 use Rattle.format.specs.Runs.{object_at, Piece}
 use Rattle.format.proofs.TableLaws.{group_kind_lem}
 use Rattle.format.proofs.TypeBytes.{InClass, in_class}
-use Rattle.wire.specs.contracts.head.Head.{the_type}
 use Rattle.wire.specs.Ranges.{Between}
 use Rattle.wire.specs.declared.head.Wrap.{Wrap}
 use Rattle.wire.specs.declared.head.Wrap.TheVariants.{Struc, Ustruc, Edt, Repeat}
@@ -113,7 +110,7 @@ module _ (d b : ℕ) (s : List ℕ) (c4 : b ≡ 0xc4) where
   like m e = subst RepeatLike e (repeat_like d b s c4)
 
   -- nothing but a container is accepted
-  pub repeat_none : (h : Head) → OneOf (0 ∷ 1 ∷ 2 ∷ 3 ∷ 4 ∷ 5 ∷ []) (tag_of the_type h) → HeadIs s h (O.head_of d b s) → (ys : Items) (u : ℕ)
+  pub repeat_none : (h : Head) → ((w : Wrap) (a n : ℕ) → h ≡ Open w a n → ⊥) → HeadIs s h (O.head_of d b s) → (ys : Items) (u : ℕ)
       → object_at d b s ≡ got ys u → is_string ys ≡ false
   unfolding object_at object
   repeat_none (Stop x) k e ys u f =
@@ -125,7 +122,7 @@ module _ (d b : ℕ) (s : List ℕ) (c4 : b ≡ 0xc4) where
   repeat_none (Sbits n w v) k e ys u f = absurd (like _ e.1)
   repeat_none (Lbits a n v) k e ys u f = absurd (like _ e.0)
   repeat_none (Text a n) k e ys u f = absurd (like _ e.0)
-  repeat_none (Open w a n) k e ys u f = absurd (miss (0 ∷ 1 ∷ 2 ∷ 3 ∷ 4 ∷ 5 ∷ []) 6 tt k)
+  repeat_none (Open w a n) k e ys u f = absurd (k w a n refl)
 
   closed_string : (w : Wrap) (a n : ℕ) → RepeatLike (O.opens (wrap_of w) a n) → (xs : Items) → 0 < copies_of w → is_string (closed_items w xs) ≡ is_string xs
   unfolding wrap_of closed_items copies_of
@@ -218,10 +215,6 @@ chars_bytes d s i e l w = chars_piece (chars_say s i e (omega (arith, w.0)) w.1 
 pub chars_gaps : (d : ℕ) (s : List ℕ) (i e : ℕ) → get_or s i 0 ≡ 0xff → (i + 1 ≤ e) × (e ≤ length s) × Between 0xff 0xff (i + 1) e s → Chars d s i → Chars d s e
 chars_gaps d s i e l w = chars_piece (padding_says s i e (omega (arith, w.0)) w.1 (between_from 0xff 0xff i e s (omega arith) (omega arith) w.2)) string_end
 
-pub yes_not : (r : Bool) → not r ≡ true → r ≡ false
-yes_not true e = sym e
-yes_not false e = refl
-
 -- ---- as the code tells a type-byte
 pub char_is : (b : ℕ) (r : Bool) → r ≡ eqb (b / 128) 0 → r ≡ true → b < 0x80
 char_is b r e y = let k : b / 128 ≡ 0 = true_eq (b / 128) 0 (sym e ∙ y) in omega arith
@@ -262,8 +255,8 @@ module _ {d : ℕ} {s : List ℕ} {i : ℕ} {w : Wrap} {a n : ℕ} (p : PatternA
       told : (ys : Items) (u : ℕ) → Here d s i ≡ got ys u → (u ≡ a + n) × (is_string ys ≡ r)
       told = repeat_as d (get_or s i 0) S c4 w a n p.head r (subst (λ l. OnlyChars (d + 1) l r) (pattern_part s i a n) q) m
 
-      pub more_turn : not r ≡ false → Chars d s (i + 1 + a + n)
-      more_turn y = chars_turn v p.here (i + 1 + a + n) pattern_end (λ ys u x. let k = told ys u x in (omega (arith, k.0), k.1 ∙ held r y))
+      pub more_turn : r ≡ true → Chars d s (i + 1 + a + n)
+      more_turn y = chars_turn v p.here (i + 1 + a + n) pattern_end (λ ys u x. let k = told ys u x in (omega (arith, k.0), k.1 ∙ y))
 
-      pub stop_turn : not r ≡ true → OnlyChars d s false
-      stop_turn y = chars_not v p.here (λ ys u x. (told ys u x).1 ∙ yes_not r y)
+      pub stop_turn : r ≡ false → OnlyChars d s false
+      stop_turn y = chars_not v p.here (λ ys u x. (told ys u x).1 ∙ y)

@@ -1,13 +1,10 @@
 -- Containers tried as strings: by how they close, by their type-byte, and by their first byte. Assumes nothing.
-use Rattle.std.proofs.Common.{◌≡◌, ℕ, ◌+◌, ◌<◌, ◌≤◌, Bool, true, false, eqb, ltb, ◌≢◌, List, [], ◌∷◌, length, get_or, sym, refl, ap, ◌∙◌, subst, arith, ltb-false}
+use Rattle.std.proofs.Common.{◌≡◌, ℕ, ◌+◌, ◌<◌, ◌≤◌, Bool, true, false, eqb, ltb, ◌≢◌, List, length, get_or, sym, refl, ap, ◌∙◌, subst, arith, ltb-false}
 use borrow.Author.Tests.{eqb-false}
-use types.Run.{OneOf, miss}
-use denote.Enum.Declared.{tag_of}
 use Rattle.format.specs.Choice.{pick, both, either}
 use Rattle.format.specs.Items.{Items, is_string}
 use Rattle.format.specs.Messages.{Outcome, says, reads}
 use Rattle.format.proofs.Choices.{clash, whether}
-use Rattle.wire.specs.contracts.head.Wrap.{the_type}
 use Rattle.wire.specs.declared.head.Wrap.{Wrap}
 use Rattle.wire.specs.declared.head.Wrap.TheVariants.{Struc, Ustruc, Edt, Repeat}
 use Rattle.fill.specs.Containers.{is_struc, text_in}
@@ -17,12 +14,12 @@ use Rattle.fill.specs.Texts.{spells, contents_say, TextRoom, Tried, TextTried}
 use Rattle.fill.proofs.TextLaws.{no_string}
 use Rattle.fill.proofs.StringLaws.{no_chars, chars_start, chars_not}
 
-pub other_wrap : (w : Wrap) → OneOf (2 ∷ 3 ∷ []) (tag_of the_type w) → is_struc w ≡ false
+pub other_wrap : (w : Wrap) → (w ≡ Struc → ⊥) → (w ≡ Ustruc → ⊥) → is_struc w ≡ false
 unfolding is_struc
-other_wrap Struc k = absurd (miss (2 ∷ 3 ∷ []) 0 tt k)
-other_wrap Ustruc k = absurd (miss (2 ∷ 3 ∷ []) 1 tt k)
-other_wrap Edt k = refl
-other_wrap (Repeat n) k = refl
+other_wrap Struc k l = absurd (k refl)
+other_wrap Ustruc k l = absurd (l refl)
+other_wrap Edt k l = refl
+other_wrap (Repeat n) k l = refl
 
 -- ---- by how a container closes: a STRUC or USTRUC is asked whether it is a string, and nothing else
 pub struc_text : (w : Wrap) → is_struc w ≡ true → (xs : Items) → text_in w xs ≡ is_string xs

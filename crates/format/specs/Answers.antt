@@ -88,16 +88,16 @@ pub record Normalising : Type 0 where
   pub table : List ℕ
   pub output : List ℕ
 
-abbrev pub onlyRead : Reading → List ℕ → Normalising
-onlyRead r o = record { number = r.number; place = r.place; words = r.words; length = 0; missing = r.missing; table = r.table; output = o }
+abbrev pub only_read : Reading → List ℕ → Normalising
+only_read r o = record { number = r.number; place = r.place; words = r.words; length = 0; missing = r.missing; table = r.table; output = o }
 
-abbrev pub readAnd : Reading → Writing → Normalising
-readAnd r w =
+abbrev pub read_and : Reading → Writing → Normalising
+read_and r w =
     record { number = w.number; place = r.place; words = r.words; length = w.length; missing = r.missing; table = r.table; output = w.output }
 
 unfoldable pub then_written : Reading → List ℕ → Normalising
 unfolding if_eq writing
-then_written r o = if_eq r.number 0 (readAnd r (writing r.table o)) (onlyRead r o)
+then_written r o = if_eq r.number 0 (read_and r (writing r.table o)) (only_read r o)
 
 unfoldable pub normalising : List ℕ → List ℕ → List ℕ → Normalising
 unfolding then_written reading

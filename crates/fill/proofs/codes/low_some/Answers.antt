@@ -1,0 +1,9 @@
+-- Bytes under the mask of their low bits, moved up. Assumes nothing.
+use Rattle.std.proofs.Common.{arith}
+use Rattle.fill.proofs.LowBytes.{low_some}
+use Rattle.fill.proofs.codes.low_some.Goals as goal
+
+pub returns : goal.returns
+returns c =
+    let p = c.requires in
+    low_some _ _ _ (λ j. omega (arith, c.type_inv.c j)) p.1 p.2 c.number.ensures.0

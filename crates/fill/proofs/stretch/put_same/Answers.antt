@@ -1,0 +1,29 @@
+-- The loop's invariant: the rows of the integers so far stand behind what was there. Assumes nothing.
+use Rattle.std.proofs.Common.{arith, length-drop, length-take}
+use Rattle.format.proofs.SignedLaws.{handed_word}
+use Rattle.format.proofs.TypeBytes.{following_range}
+use Rattle.fill.proofs.Stretches.{stretched_none, stretched_long}
+use Rattle.fill.proofs.stretch.put_same.Goals as goal
+
+pub integer_of-requires : goal.integer_of-requires
+integer_of-requires c =
+    let f = following_range c.args.b in
+    (omega arith, simp (length-take, length-drop) (omega arith), omega arith)
+
+pub loop-table-preserved : goal.loop-table-preserved
+loop-table-preserved c =
+    let z = c.integer_of in
+    let w = handed_word _ z.result _ z.type_inv z.ensures c.word_of.ensures in
+    stretched_long c.loop-table.invariant (omega arith) (omega arith) _ _ _ c.requires.2 (omega arith) (omega arith) w c.put_at.ensures
+
+pub loop-table-init : goal.loop-table-init
+loop-table-init c = let p = c.requires in stretched_none _ _ _ _ p.0 p.1
+
+pub returns-then-s-upto : goal.returns-then-s-upto
+returns-then-s-upto c = c.loop-table.invariant
+
+pub returns-then-s-upto-2 : goal.returns-then-s-upto-2
+returns-then-s-upto-2 c = c.loop-table.invariant
+
+pub returns : goal.returns
+returns c = c.loop-table.invariant
