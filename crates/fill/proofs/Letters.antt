@@ -158,9 +158,6 @@ pub record Copied (n m k b : ℕ) (t₀ t : List ℕ) (to : ℕ) : Type 0 where
   pub so_far : (cs ds u : List ℕ) → length cs ≡ n → length ds ≡ m → Low ds → t₀ ≡ over (letters (cs ++ take (b - n) (again k ds))) u
       → t ≡ over (letters (cs ++ take (to - n) (again k ds))) u
 
-pub copied_start : (n m k b : ℕ) (t : List ℕ) → n + m ≤ b → b ≤ n + k * m → Copied n m k b t t b
-copied_start n m k b t h g = record { from = h; upto = g; long = refl; so_far = λ cs ds u e f low w. w }
-
 pub copied_step : (n m k b : ℕ) (t₀ t : List ℕ) (to : ℕ) → to < n + k * m → Copied n m k b t₀ t to → (c : ℕ) → CodeIs (to - m) t c
     → (u : List ℕ) → length u ≡ length t → Spelt to (c ∷ []) t u → Copied n m k b t₀ u (to + 1)
 copied_step n m k b t₀ t to h v c r u lu p =

@@ -106,9 +106,6 @@ module _ {d : ℕ} {s : List ℕ} {n : ℕ} {t₀ t : List ℕ} {i to : ℕ} (v 
       let z : v.all ≡ v.xs = cc in
       record { items = v.xs; said = e; chars = ap is_string (sym z) ∙ v.whole; upto = v.upto; low = v.low; spelt = v.spelt }
 
-  pub so_few : to ≤ 131072
-  so_few = omega arith
-
   -- items ys further on, up to e
   more : (ys : Items) (e : ℕ) → Passed d s v.all (join v.xs ys) e → (u : List ℕ) → length u ≡ length t → Low (codes ys) → Spelt to (codes ys) t u
       → Spelling d s n t₀ u e (to + count ys)

@@ -1,0 +1,46 @@
+-- `measure::figures::measured` meets its contract. Assumes nothing.
+use mathlib.Core.Path.{ap, ◌∙◌}
+use native.Mathlib.Omega.{arith}
+use borrow.Author.Rules.{rules}
+use Rattle.format.specs.Numbers.{signed}
+use Rattle.format.proofs.SignedLaws.{handed}
+use Rattle.measure.proofs.Answering.{Small, um_fits, sheet_told}
+use Rattle.measure.proofs.figures.measured.Goals as goal
+use Rattle.measure.proofs.figures.measured.Goals.{After-value_of}
+
+-- the products are small
+small : (c : After-value_of)
+    → Small c.per_unit-each.result c.value_at-chest.result c.value_at-waist.result
+    c.value_at-sleeve.result
+small c =
+    um_fits _ _ _ _ _ _ c.requires c.per_unit-each.ensures c.value_at-chest.ensures c.value_at-waist.ensures c.value_at-sleeve.ensures
+
+pub returns : goal.returns
+returns c =
+    let z = handed _ c.value_of.result c.value_of.type_inv (c.value_of.ensures ∙ ap (signed 8) c.value_at.ensures) in
+    sheet_told _ _ _ _ _ _ _ _ c.requires z c.value_at-unit.ensures c.value_at-chest.ensures c.value_at-waist.ensures
+    c.value_at-sleeve.ensures c.per_unit-each.ensures
+
+pub value_at-unit-requires : goal.value_at-unit-requires
+value_at-unit-requires c = omega (arith, c.requires.room)
+
+pub value_at-chest-requires : goal.value_at-chest-requires
+value_at-chest-requires c = omega (arith, c.requires.room)
+
+pub value_at-waist-requires : goal.value_at-waist-requires
+value_at-waist-requires c = omega (arith, c.requires.room)
+
+pub value_at-sleeve-requires : goal.value_at-sleeve-requires
+value_at-sleeve-requires c = omega (arith, c.requires.room)
+
+pub value_at-requires : goal.value_at-requires
+value_at-requires c = omega (arith, c.requires.room)
+
+pub overflow_mul-result : goal.overflow_mul-result
+overflow_mul-result c = omega (arith, (small (goal.at.overflow_mul-result c).After-value_of).0)
+
+pub overflow_mul-result-2 : goal.overflow_mul-result-2
+overflow_mul-result-2 c = omega (arith, (small (goal.at.overflow_mul-result-2 c).After-value_of).1)
+
+pub overflow_mul-result-3 : goal.overflow_mul-result-3
+overflow_mul-result-3 c = omega (arith, (small (goal.at.overflow_mul-result-3 c).After-value_of).2)
