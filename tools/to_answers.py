@@ -458,7 +458,7 @@ def convert(crate, path, names, report):
         places_used.add((f, new))
         b = Body(fn, place, False, helper_names, None)
         t = "\n".join(lines)
-        t = re.sub(r"\(c : [^()]*(?:\([^()]*\))?[^()]*?(?:tie|lts)\.[\w'\-]+\)", f"(c : {f + '-' if len(fns) > 1 and f else ''}{new}{' t' if is_cycle else ''})", t, count=1)
+        t = re.sub(r"\(c : [^()]*(?:\([^()]*\))?[^()]*?(?:tie|lts)\.[\w'\-]+(?: [\w\-']+)*\)", f"(c : {f + '-' if len(fns) > 1 and f else ''}{new}{' t' if is_cycle else ''})", t, count=1)
         t = b.turn(t)
         for other, said in inlined.items():
             t = re.sub(r"(?<![\w\-])" + re.escape(other) + r"( t)? (?:\(\(LEFT-place [^)]*\)\)|\(LEFT-place [^)]*\))", lambda m: "(" + said + ")", t)

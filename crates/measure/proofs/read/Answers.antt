@@ -22,10 +22,10 @@ returns-then-r-ne0 c =
 
 pub judged-requires : goal.judged-requires
 judged-requires c =
-    read_some c.args.message.now c.args.table.now (bytes (goal.at.judged-requires c).After-read-arg-1) (read_told c.read-r.result c.read-r.new.table) c.read-r.ensures c.if-r-ne0.false
+    read_some c.args.message.now c.args.table.now (bytes (goal.at.judged-requires c).After-read-r) (read_told c.read-r.result c.read-r.new.table) c.read-r.ensures c.if-r-ne0.false
 
 pub returns : goal.returns
 returns c =
     c.judged.ensures
-    ∙ read_judged c.args.message.now c.args.table.now (bytes (goal.at.returns c).After-read-arg-1) (read_told c.read-r.result c.read-r.new.table) c.read-r.ensures
+    ∙ read_judged c.args.message.now c.args.table.now (bytes (goal.at.returns c).After-read-r) (read_told c.read-r.result c.read-r.new.table) c.read-r.ensures
     c.if-r-ne0.false

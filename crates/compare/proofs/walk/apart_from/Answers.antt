@@ -10,10 +10,10 @@ use Rattle.compare.proofs.walk.apart_from.Goals as goal
 use Rattle.compare.proofs.walk.apart_from.Goals.{In-loop-i}
 
 -- in the loop, two rows are there
-here : (c : tie.In-loop invariant-loop decreases-loop) → Here c.args.left.now c.args.right.now c.loop-i.i c.loop-i.j
+here : (c : In-loop-i) → Here c.args.left.now c.args.right.now c.loop-i.i c.loop-i.j
 here c = pass_here _ _ _ _ _ _ c.loop-i.invariant.1 c.requires (omega arith)
 
-rows-there : (c : tie.In-loop invariant-loop decreases-loop) → InRows c.args.left.now c.args.right.now c.loop-i.i c.loop-i.j
+rows-there : (c : In-loop-i) → InRows c.args.left.now c.args.right.now c.loop-i.i c.loop-i.j
 rows-there c = here_rows _ _ _ _ (here c)
 
 pub loop-i-preserved : goal.loop-i-preserved

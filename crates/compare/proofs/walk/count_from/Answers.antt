@@ -9,7 +9,7 @@ use Rattle.compare.proofs.walk.count_from.Goals as goal
 use Rattle.compare.proofs.walk.count_from.Goals.{In-loop-i}
 
 -- in the loop, two items differ
-differ : (c : tie.In-loop invariant-loop decreases-loop) → Behind c.args.left.now c.args.right.now c.loop-i.i c.loop-i.j
+differ : (c : In-loop-i) → Behind c.args.left.now c.args.right.now c.loop-i.i c.loop-i.j
 differ c = count_behind _ _ _ _ _ c.loop-i.invariant.1 (omega arith)
 
 pub loop-i-preserved : goal.loop-i-preserved

@@ -8,11 +8,11 @@ use Rattle.compare.proofs.walk.list_from.Goals as goal
 use Rattle.compare.proofs.walk.list_from.Goals.{After-slice_known-2-1, In-loop-n}
 
 -- there is room for the first
-first-room : (c : tie.After-slice-known2 invariant-loop decreases-loop) → 2 ≤ length c.args.list.now
+first-room : (c : After-slice_known-2-1) → 2 ≤ length c.args.list.now
 first-room c = omega (arith, c.requires.count_value.0, c.requires.count_value.1, first_some _ _ _ _ c.requires.first.0 c.requires.first.1)
 
 -- in the loop, the list is as long as it was lent
-as_long : (c : tie.In-loop invariant-loop decreases-loop) → length c.loop-n.list ≡ length c.args.list.now
+as_long : (c : In-loop-n) → length c.loop-n.list ≡ length c.args.list.now
 as_long c =
     list_length _ _ _ _ _ _ _ c.loop-n.invariant.1 _ _ _ c.put_entry.ensures ((omega (arith, c.requires.count_value.0, c.requires.count_value.1, first_some _ _ _ _ c.requires.first.0 c.requires.first.1))) (omega (arith, c.requires.count_value.1, c.loop-n.invariant.0))
 
