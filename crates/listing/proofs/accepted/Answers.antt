@@ -52,7 +52,9 @@ put_run-requires c =
 
 pub returns : goal.returns
 unfolding accepted_text
-returns c = let r = (let y = ready c.args.table.now c.requires.0 in
+returns c =
+    let y = ready c.args.table.now c.requires.0 in
     rw (y.text, ← y.outermost, ← y.number, ← y.is)
-    (over_front (then c.put_text-n.ensures (then c.put_decimal-n.ensures (then c.put_text-n-2.ensures (then c.put_decimal-n-2.ensures
-    (then c.put_text-n-3.ensures c.put_run.ensures))))))) in record { value = r.0; out_after = r.1 }
+    (let r = over_front (then c.put_text-n.ensures (then c.put_decimal-n.ensures (then c.put_text-n-2.ensures (then c.put_decimal-n-2.ensures
+    (then c.put_text-n-3.ensures c.put_run.ensures))))) in
+    record { value = r.0; out_after = r.1 })

@@ -15,15 +15,15 @@ use Rattle.listing.proofs.walk.+put_run.Goals as goal
 -- ==== the arguments
 pub loop-p-init : goal.loop-p-init
 loop-p-init t c =
-    let r = c.requires.to_in_bounds.0.0 in
+    let r = c.requires.run.0 in
     let n = r.stands.number in
-    (omega arith, r, c.requires.to_in_bounds.0.1, part_start c.args.at (lines c.args.level (items_at c.args.table.now c.args.from c.args.to)) c.args.out.now c.requires.to_in_bounds.1)
+    (omega arith, r, c.requires.run.1, part_start c.args.at (lines c.args.level (items_at c.args.table.now c.args.from c.args.to)) c.args.out.now c.requires.to_in_bounds)
 
 pub put_row-n-requires : goal.put_row-n-requires
 put_row-n-requires t c =
     let m = part_room c.loop-p.invariant.3 in
     let f = row_first c.args.table.now c.loop-p.p c.args.to c.args.level c.loop-p.invariant.1 c.loop-p-test.true in
-    record { row_in_order = row_at _ _ _ c.loop-p.invariant.1 c.loop-p-test.true; p_in_bounds = omega (arith, c.requires.to_in_bounds.1) }
+    record { row_in_order = row_at _ _ _ c.loop-p.invariant.1 c.loop-p-test.true; p_in_bounds = omega (arith, c.requires.to_in_bounds) }
 
 pub loop-p-preserved-then-table-p-lt-STRUC : goal.loop-p-preserved-then-table-p-lt-STRUC
 loop-p-preserved-then-table-p-lt-STRUC t c =
@@ -57,7 +57,7 @@ put_run-n-requires t c =
     let d = group_depth _ _ _ g in
     let m = part_room (part_step c.loop-p.invariant.3 (group_lines _ _ _ c.args.level c.loop-p.invariant.1 g) c.put_row-n.ensures) in
     let n = length-append (lines (c.args.level + 1) (items_at w (c.loop-p.p + 1) next)) (lines c.args.level (items_at w next c.args.to)) in
-    (omega arith, ((g.inside, omega arith), omega (arith, c.requires.to_in_bounds.1)))
+    (omega arith, ((g.inside, omega arith), omega (arith, c.requires.to_in_bounds)))
 
 pub loop-p-smaller : goal.loop-p-smaller
 loop-p-smaller t c =

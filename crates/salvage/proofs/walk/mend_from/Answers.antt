@@ -50,7 +50,7 @@ pub shape_of-output-then-n-eq0 : goal.shape_of-output-then-n-eq0
 shape_of-output-then-n-eq0 c = (same_long _ _ _ _ _ _ _ _ c.loop-k.invariant c.requires.has_room.0).0
 
 pub shape_of-list-then-n-eq0 : goal.shape_of-list-then-n-eq0
-shape_of-list-then-n-eq0 c = list_long c.args.input.now c.args.output.now c.args.list.now _ c.requires.has_room.0 (returns c).1
+shape_of-list-then-n-eq0 c = list_long c.args.input.now c.args.output.now c.args.list.now _ c.requires.has_room.0 (returns-then-n-eq0 c).list_after
 
 pub overflow_add-end : goal.overflow_add-end
 overflow_add-end c = omega (
@@ -118,7 +118,7 @@ pub copy_to-requires-2 : goal.copy_to-requires-2
 copy_to-requires-2 c = end_room _ _ _ _ _ _ _ _ c.loop-k.invariant (omega (arith, c.loop-k-test.false, c.requires.has_room.1)) c.requires.has_room.0
 
 pub shape_of-output : goal.shape_of-output
-shape_of-output c = out_long c.args.input.now c.args.output.now c.args.list.now _ c.requires.has_room.0 (returns-2 c).0
+shape_of-output c = out_long c.args.input.now c.args.output.now c.args.list.now _ c.requires.has_room.0 (returns c).output_after
 
 pub shape_of-list : goal.shape_of-list
 shape_of-list c = (same_long _ _ _ _ _ _ _ _ c.loop-k.invariant c.requires.has_room.0).1

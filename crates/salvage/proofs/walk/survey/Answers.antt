@@ -26,7 +26,7 @@ pub loop-p-init : goal.loop-p-init
 loop-p-init c = survey_start _
 
 pub overflow_add-result : goal.overflow_add-result
-overflow_add-result c = omega (arith, c.loop-p.invariant.few-changes, c.loop-p.invariant.upto, c.requires)
+overflow_add-result c = omega (arith, c.loop-p.invariant.few_changes, c.loop-p.invariant.upto, c.requires)
 
 pub overflow_add-p : goal.overflow_add-p
 overflow_add-p c = omega (arith, part_upto c.args.input.now c.loop-p.p c.part_at-part.result (omega (arith, c.loop-p-test.true)) c.part_at-part.ensures, c.requires)
@@ -37,7 +37,7 @@ overflow_add-bytes c = omega (arith, part_upto c.args.input.now c.loop-p.p c.par
 pub overflow_add-rows : goal.overflow_add-rows
 overflow_add-rows c = omega (
   arith,
-  c.loop-p.invariant.few-rows,
+  c.loop-p.invariant.few_rows,
   c.loop-p.invariant.upto,
   c.requires,
   (survey_few c.args.input.now c.loop-p.p _ _ _ _ _ c.loop-p.invariant
@@ -61,10 +61,10 @@ pub overflow_add-bytes-in-loop-p : goal.overflow_add-bytes-in-loop-p
 overflow_add-bytes-in-loop-p c = omega (arith, c.loop-p.invariant.few_bytes, c.loop-p.invariant.upto, c.requires)
 
 pub overflow_add-entries : goal.overflow_add-entries
-overflow_add-entries c = omega (arith, c.loop-p.invariant.few-changes, c.loop-p.invariant.upto, c.requires)
+overflow_add-entries c = omega (arith, c.loop-p.invariant.few_changes, c.loop-p.invariant.upto, c.requires)
 
 pub overflow_add-rows-in-loop-p : goal.overflow_add-rows-in-loop-p
-overflow_add-rows-in-loop-p c = omega (arith, c.loop-p.invariant.few-rows, c.loop-p.invariant.upto, c.requires)
+overflow_add-rows-in-loop-p c = omega (arith, c.loop-p.invariant.few_rows, c.loop-p.invariant.upto, c.requires)
 
 pub loop-p-smaller : goal.loop-p-smaller
 loop-p-smaller c = omega (arith, part_upto c.args.input.now c.loop-p.p c.part_at-part.result (omega (arith, c.loop-p-test.true)) c.part_at-part.ensures, c.if-part-eq0.false)
