@@ -22,6 +22,7 @@ pub fn copies_of(w: Wrap) -> usize
 }
 
 // The last word of a row that is copied: the data of BITS and of a string lie `words` further on.
+#[tactic(auto, using(crate::proofs::CopyLaws::shift_bits, crate::proofs::CopyLaws::shift_string, crate::proofs::CopyLaws::shift_none))]
 fn shifted(kind: u64, b: u64, words: usize) -> u64
     ensures { result ≡ shift words kind b }
 {
