@@ -7,27 +7,23 @@ mod input;
 use crate::input::Input;
 
 // Writes a message's listing to standard output.
-fn list_sheet(sheet: &[u8]) {
+fn list_sheet(rt: &(impl Print + Eprint), sheet: &[u8]) {
     let mut table = [0u64; 8000];
     let mut text = [0u8; 524288];
     let length = listing::list(sheet, &mut table, &mut text);
-    if !io::write_all(libc::STDOUT_FILENO, &text[..length]) {
-        io::write_all(
-            libc::STDERR_FILENO,
-            b"sheetlist: the listing could not be written\n",
-        );
+    if rt.write_all(&text[..length]).is_err() {
+        let _ = eprintln!(rt; "sheetlist: the listing could not be written");
     }
 }
 
-fn main() {
+fn main(rt: HostRuntime) {
     let mut sheet = [0u8; 32769];
-    let got = input::read_input(libc::STDIN_FILENO, &mut sheet);
+    let got = input::read_input(&mut rt.stdin(), &mut sheet);
     match got {
-        Input::Whole(length) => list_sheet(&sheet[..length]),
+        Input::Whole(length) => list_sheet(&rt, &sheet[..length]),
         Input::Failed => {
-            io::write_all(
-                libc::STDERR_FILENO,
-                b"sheetlist: the sheet could not be read to its end; nothing is listed\n",
+            let _ = eprintln!(rt;
+                "sheetlist: the sheet could not be read to its end; nothing is listed"
             );
         }
     }
