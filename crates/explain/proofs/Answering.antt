@@ -1,18 +1,16 @@
 -- The answer by what the message is: over 65,536 bytes, refused, or neither; and what the code tells in each case. Assumes nothing.
 use Prim.Native.Nat.{ℕ, zero, suc, ◌+◌, ◌*◌, ◌≤◌, ◌<◌, min, zero-le}
 use native.Mathlib.Omega.{arith}
-use mathlib.Core.Path.{◌≡◌, refl, sym, ap, ap₂, ◌∙◌, subst}
+use mathlib.Core.Path.{◌≡◌, refl, sym, ap, ap₂, ◌∙◌}
 use mathlib.Core.Logic.{◌≢◌}
 use mathlib.Core.List.{List, []}
 use lib.ListN.{length, take}
 use lib.Seq.{length-take-le}
-use Rattle.format.specs.Choice.{if_eq}
 use Rattle.format.specs.declared.fault.Fault.{Fault}
 use Rattle.format.specs.Refusals.{byte_limit, row_limit, word_limit}
 use Rattle.format.specs.Items.{Items}
 use Rattle.format.specs.Messages.{Outcome, refused, says, outcome}
 use Rattle.format.specs.Tables.{rows, data_words, words_needed}
-use Rattle.format.specs.Answers as A
 use Rattle.format.specs.Answers.{over, laid, reading_of, reading}
 use Rattle.format.proofs.Choices.{if_lt_yes, if_lt_no, if_eq_yes, if_eq_no, split}
 use Rattle.message.specs.declared.Reading.{Reading}
@@ -27,7 +25,7 @@ use Rattle.explain.specs.declared.evidence.Evidence.{Evidence}
 use Rattle.explain.specs.declared.evidence.Evidence.TheVariants.{Nothing, Wanted}
 use Rattle.explain.specs.declared.descent.Spot.{Spot}
 use Rattle.explain.specs.Reasons.{Why, why, evidence_at}
-use Rattle.explain.specs.Explanations.{blank, answer_of, reading_in, wanted, why_by, why_refused, explained, explaining, coded, in_numbers}
+use Rattle.explain.specs.Explanations.{blank, answer_of, reading_in, wanted, why_by, why_refused, explained, explaining, in_numbers}
 use Rattle.explain.specs.Told.{Descended, explain_told, told_of, refused_told, measured_of}
 use Rattle.explain.proofs.Faultless as F
 

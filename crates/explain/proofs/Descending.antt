@@ -4,7 +4,7 @@ use native.Mathlib.Omega.{arith}
 use native.Mathlib.Nat.{add-zero, le_refl}
 use native.Mathlib.Numerals.{add-one}
 use mathlib.Core.Path.{◌≡◌, refl, sym, ap, ◌∙◌, subst}
-use mathlib.Core.Logic.{◌≢◌, ◌⊎◌, inl, inr}
+use mathlib.Core.Logic.{◌≢◌, ◌⊎◌}
 use mathlib.Core.List.{List, [], ◌∷◌, ◌++◌, append-nil}
 use lib.ListN.{length, take, drop, get_or, set, length-set}
 use lib.Seq.{take_all, length-take-le, take-suc-set}
@@ -249,7 +249,7 @@ many_over {m} {place} {at} {end} {depth} {trail} (suc n) v g =
     let x = single_head depth (get_or m at 0) (take (end - (at + 1)) (drop (at + 1) m)) (g at (le_refl at) (omega arith)) in
     let w : Descending m place (at + 1 + 0) end depth trail = step_over v (x.0, x.1, zero-le) in
     let k : at + 1 + 0 + n ≡ at + suc n = omega arith in
-    subst (λ j. Descending m place j end depth trail) k (many_over n w (λ j p q. g j (omega arith) (omega arith)))
+    subst (λ j. Descending m place j end depth trail) k (many_over {at = at + 1 + 0} n w (λ j p q. g j (omega arith) (omega arith)))
 
 pub step_singles : {m : List ℕ} {place at end depth : ℕ} {trail : List ℕ} (r : ℕ) → Descending m place at end depth trail → Singles m at r end → Descending m place r end depth trail
 step_singles {m} {place} {at} {end} {depth} {trail} r v s =

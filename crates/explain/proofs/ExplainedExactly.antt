@@ -1,5 +1,5 @@
 -- What explaining answers, and when: theorems about the function that the contract of the public operation cites. Assumes nothing.
-use Prim.Native.Nat.{ℕ, zero, suc, ◌≤◌, ◌<◌, min, zero-le}
+use Prim.Native.Nat.{ℕ, ◌≤◌, ◌<◌, min, zero-le}
 use native.Mathlib.Omega.{arith}
 use mathlib.Core.Path.{◌≡◌, refl, sym, ap, ◌∙◌, subst}
 use mathlib.Core.Logic.{◌≢◌, ◌⊎◌, inl, inr, ⊎_elim, ◌↔◌}
@@ -16,15 +16,14 @@ use Rattle.format.specs.Answers.{over, unread, laid, reading_of, reading}
 use Rattle.format.proofs.Choices.{if_lt_yes, if_lt_no, if_eq_yes, if_eq_no, split, by_lt, by_lt₂}
 use Rattle.format.proofs.Faults.{fault_inside}
 use Rattle.message.specs.declared.Reading.{Reading}
-use Rattle.message.proofs.Cases.{read_fault}
 use Rattle.explain.specs.declared.evidence.Evidence.{Evidence}
 use Rattle.explain.specs.declared.evidence.Evidence.TheVariants.{Nothing, Wanted}
 use Rattle.explain.specs.Reasons.{Why, why}
 use Rattle.explain.specs.Facts.{Because}
-use Rattle.explain.specs.Explanations.{blank, answer_of, reading_in, wanted, why_by, why_refused, Explaining, unanswered, explained, explaining}
+use Rattle.explain.specs.Explanations.{blank, answer_of, reading_in, wanted, why_refused, Explaining, unanswered, explained, explaining}
 use Rattle.explain.proofs.Explained.{told_why}
 use Rattle.explain.proofs.AroundFew.{why_few}
-use Rattle.explain.proofs.Answering.{blank_long, bare, long_reading, long_why, fault_reading, fault_why, said_why}
+use Rattle.explain.proofs.Answering.{blank_long, long_reading, long_why, fault_reading, fault_why, said_why}
 
 -- ---- reading's answer depends on the length of the table lent, and on nothing else of it
 abbrev SameAnswer : A.Reading → A.Reading → Type 0

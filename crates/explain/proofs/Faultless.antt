@@ -6,7 +6,6 @@ use Rattle.format.specs.Refusals.{row_limit, word_limit}
 use Rattle.message.specs.declared.Reading.{Reading}
 use Rattle.message.specs.Told.{read_answer}
 use Rattle.explain.specs.declared.Explaining.{Explaining}
-use Rattle.explain.specs.declared.evidence.Evidence.{Evidence}
 use Rattle.explain.specs.declared.evidence.Evidence.TheVariants.{Wanted, Nothing}
 use Rattle.explain.specs.Told.{told_of, measured_of}
 

@@ -1,21 +1,14 @@
 -- Places among elements that are joined and repeated, from the places of each; and the walk that finds them. Assumes nothing.
-use Prim.Native.Nat.{ℕ, zero, suc, ◌+◌, ◌≤◌, ◌<◌}
+use Prim.Native.Nat.{ℕ, zero, suc, ◌+◌}
 use native.Mathlib.Omega.{arith}
-use native.Mathlib.Nat.{le_refl}
-use mathlib.Core.Path.{◌≡◌, refl, sym, ap, ap₂, ◌∙◌, subst}
+use mathlib.Core.Path.{◌≡◌, refl, sym, ap, ◌∙◌}
 use mathlib.Core.Logic.{◌≢◌}
-use mathlib.Core.List.{List, [], ◌∷◌, ◌++◌, append_assoc, append-nil}
-use lib.ListN.{length, get_or}
-use Rattle.format.specs.declared.fault.Fault.{Fault}
-use Rattle.format.specs.Items.{end}
+use mathlib.Core.List.{List, [], ◌∷◌, ◌++◌, append-nil}
 use Rattle.format.specs.Choice.{if_eq}
-use Rattle.format.specs.Objects as O
 use Rattle.format.proofs.Choices.{if_eq_yes, if_eq_no, split_eq, by_eq}
 use Rattle.explain.specs.declared.elements.Places.{Places}
-use Rattle.explain.specs.declared.elements.Piece.TheVariants.{Halt, Skip, Item, Copies}
-use Rattle.explain.specs.Reasons.{between, head_at, Stands, standing, again, opened, elements_by, elements_in}
-use Rattle.explain.specs.Told.{or_else, second_of, first_place, second_place, other_place, places_of, nothing_of, one_of, plus_of, copies_of, PieceIs}
-use Rattle.explain.proofs.ElementLaws.{elements_end, elements_step}
+use Rattle.explain.specs.Reasons.{Stands, again}
+use Rattle.explain.specs.Told.{or_else, second_of, first_place, second_place, other_place, places_of, nothing_of, plus_of, copies_of}
 
 -- ---- the first that is there
 else_none : (b : ℕ) → or_else 0 b ≡ b

@@ -9,16 +9,15 @@ use mathlib.Core.List.{List, [], ◌∷◌, ◌++◌}
 use lib.ListN.{length}
 use lib.Seq.{take_all}
 use Rattle.format.specs.declared.fault.Fault.{Fault}
-use Rattle.format.specs.Refusals.{further, here, several_kinds, bad_edt}
-use Rattle.format.specs.Items.{Items, uniform, edt_rule}
+use Rattle.format.specs.Refusals.{further}
+use Rattle.format.specs.Items.{Items}
 use Rattle.format.specs.Objects as O
-use Rattle.format.specs.Messages.{Outcome, refused, says, Object, bad, got, closing, around, onto, next, reads, outcome}
-use Rattle.format.proofs.Choices.{by_pick}
+use Rattle.format.specs.Messages.{Outcome, refused, says, Object, bad, got, closing, around, onto, reads, outcome}
 use Rattle.format.proofs.Runs.{further_further}
-use Rattle.explain.specs.Reasons.{between, head_at, object_in, fault_at, in_contents, inside_or, past_or, why_from, why}
+use Rattle.explain.specs.Reasons.{between, head_at, object_in, why_from, why}
 use Rattle.explain.specs.Facts as F
 use Rattle.explain.specs.Facts.{Reached}
-use Rattle.explain.proofs.BetweenLaws.{HeadFits, head_fits, run_at, object_opens}
+use Rattle.explain.proofs.BetweenLaws.{HeadFits, head_fits, object_opens}
 use Rattle.explain.proofs.WhySteps.{one_more, bad_run, got_run, Closing, closes, past_step, into_step}
 
 pub reached_within : (m ps : List ℕ) (i e : ℕ) → Reached m ps i e → e ≤ length m

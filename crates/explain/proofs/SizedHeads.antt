@@ -1,5 +1,5 @@
 -- An LBITSTR or REPEAT that is refused for its length or count has its contents within its bytes. Assumes nothing.
-use Prim.Native.Nat.{ℕ, zero, suc, ◌+◌, ◌-◌, ◌≤◌, ◌<◌}
+use Prim.Native.Nat.{ℕ, zero, suc, ◌-◌, ◌≤◌, ◌<◌}
 use native.Mathlib.Omega.{arith}
 use mathlib.Core.Path.{◌≡◌, refl, sym, ap, ◌∙◌, subst}
 use mathlib.Core.Logic.{◌≢◌, ◌⊎◌, inl, inr}
@@ -16,7 +16,6 @@ use Rattle.format.proofs.Sizes.{SizeFits, size_fits}
 use Rattle.format.proofs.TypeBytes.{InClass, in_class}
 use Rattle.format.proofs.HeadCases.{past_range}
 use Rattle.wire.specs.Extents.{ExtentIs}
-use Rattle.wire.specs.declared.size.Extent.{Extent}
 use Rattle.wire.specs.declared.size.Extent.TheVariants.{Wanting, Within}
 use Rattle.explain.specs.Told.{SizeIn}
 

@@ -7,7 +7,7 @@ use mathlib.Core.Path.{◌≡◌, refl, sym, ap, ◌∙◌, subst}
 use mathlib.Core.Logic.{◌≢◌, ◌⊎◌, inl, inr}
 use mathlib.Core.List.{List, [], ◌∷◌, ◌++◌, append_assoc, append-nil}
 use lib.ListN.{length, take, drop, get_or}
-use Rattle.format.specs.Items.{Items, end, kinds}
+use Rattle.format.specs.Items.{Items, kinds}
 use Rattle.format.specs.Objects as O
 use Rattle.explain.specs.declared.elements.Places.{Places}
 use Rattle.explain.specs.declared.elements.Piece.TheVariants.{Halt, Skip, Item, Copies}
@@ -134,7 +134,7 @@ many_quiet {m} {d} {k} {from} {e} {i} {sum} zero v l g = subst (λ j. Walked m d
 many_quiet {m} {d} {k} {from} {e} {i} {sum} (suc n) v l g =
     let w = quiet_step v (omega arith) (g i (le_refl i) (omega arith)) in
     let b : i + 1 + n ≡ i + suc n = omega arith in
-    subst (λ j. Walked m d k from e j sum) b (many_quiet n w (omega arith) (λ j p q. g j (omega arith) (omega arith)))
+    subst (λ j. Walked m d k from e j sum) b (many_quiet {i = i + 1} n w (omega arith) (λ j p q. g j (omega arith) (omega arith)))
 
 pub walk_quiet : {m : List ℕ} {d k from e i : ℕ} {sum : Places} (r : ℕ) → Walked m d k from e i sum → Quiet m k sum.second i r e → Walked m d k from e r sum
 walk_quiet {m} {d} {k} {from} {e} {i} {sum} r v q =

@@ -1,7 +1,7 @@
 -- "Tell me why": of a refused message "the places of all containers open around the faulty object, itself left out, outermost first, and
 -- the evidence". All places are offsets in the whole input, `m`. An object stands at `i` with `d` containers around it, and the bytes that
 -- it may have end at `e`, with the input or with the object that encloses it.
-use Rattle.std.specs.Prelude.{ℕ, zero, suc, ◌+◌, ◌-◌, List, [], ◌∷◌, ◌++◌, length, take, drop, get_or, ℤ}
+use Rattle.std.specs.Prelude.{ℕ, zero, suc, ◌+◌, ◌-◌, List, [], ◌∷◌, ◌++◌, length, take, drop, get_or}
 use Rattle.format.specs.declared.fault.Fault.{Fault}
 use Rattle.format.specs.Choice.{pick, if_lt, if_eq, either}
 use Rattle.format.specs.Refusals.{unassigned, too_deep, bad_bits}

@@ -1,6 +1,6 @@
 -- What the code's answers say: places among elements, an object in a run, where a descent ends; and the answer beside the list.
-use Rattle.std.specs.Prelude.{ℕ, suc, ◌+◌, ◌-◌, ◌*◌, ◌≤◌, ◌<◌, min, ◌≡◌, ◌≢◌, ◌⊎◌, Bool, true, List, [], ◌∷◌, ◌++◌, eqb, length, take, get_or}
-use Rattle.format.specs.Choice.{pick, if_lt, if_eq, either}
+use Rattle.std.specs.Prelude.{ℕ, ◌+◌, ◌-◌, ◌*◌, ◌≤◌, ◌<◌, min, ◌≡◌, ◌≢◌, ◌⊎◌, Bool, true, List, [], ◌∷◌, eqb, length, take, get_or}
+use Rattle.format.specs.Choice.{if_lt, if_eq, either}
 use Rattle.format.specs.declared.fault.Fault.{Fault}
 use Rattle.format.specs.Refusals.{too_many, table_short, row_limit, word_limit}
 use Rattle.format.specs.Items.{Items, end, INT, CHAR, STRUC, EDT}
