@@ -14,7 +14,7 @@ use Rattle.format.proofs.Choices.{pick_yes, pick_no, whether, clash}
 use Rattle.format.proofs.SameLaws.{if_same_yes, if_same_no}
 use Rattle.format.proofs.Counts.{count_join}
 use Rattle.format.proofs.TableLaws.{leaf_kind_lem, text_kind, other_kind}
-use Rattle.table.specs.Rows.{kind_at, a_at, rows_of, Stands, LeafRow, single, next_row}
+use Rattle.table.specs.Rows.{kind_at, a_at, rows_of, Stands, LeafRow, next_row}
 use Rattle.table.proofs.Standing as Standing
 use Rattle.table.proofs.Standing.{group_kind_lem, leaf_parts, group_parts, text_parts}
 use Rattle.table.proofs.KindLaws.{group_row}

@@ -5,7 +5,7 @@ use Prim.Native.Nat.{ℕ, suc, ◌+◌, ◌≤◌, ◌<◌}
 use native.Mathlib.Numerals.{add-one}
 use native.Mathlib.Omega.{arith}
 use lib.ListN.{length, length-append}
-use Rattle.format.specs.Items.{Items, struc, leaf}
+use Rattle.format.specs.Items.{Items, struc}
 use Rattle.format.specs.Tables.{count, is_text, codes}
 use Rattle.format.proofs.Choices.{pick_yes, pick_no, split, split_eq}
 use Rattle.table.specs.Rows.{kind_at, a_at, b_at, Stands, items_at, Run, text_at}

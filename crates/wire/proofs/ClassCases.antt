@@ -2,15 +2,10 @@
 use Prim.Native.Nat.{ℕ, ◌+◌, ◌-◌, ◌/◌, ◌≤◌, ◌<◌}
 use native.Mathlib.Omega.{arith}
 use mathlib.Core.Path.{◌≡◌, refl, sym, ap, subst, ◌∙◌}
-use mathlib.Core.Bool.{Bool, true, false, not}
-use mathlib.Core.List.{List, [], ◌∷◌}
-use lib.Dec.{T, eqb}
-use mir.Val.{has_key}
-use types.Run.{OneOf, miss}
-use denote.Enum.Declared.{tag_of}
+use mathlib.Core.Bool.{true, false}
+use lib.Dec.{eqb}
 use Rattle.format.specs.declared.Class.{Class}
 use Rattle.format.specs.declared.Class.TheVariants as C
-use Rattle.format.specs.contracts.Class.{the_type}
 use Rattle.format.specs.Classes.{class_of}
 use Rattle.format.proofs.Choices.{Each, each, eq_true, eq_false}
 use Rattle.format.proofs.TypeBytes.{InClass, in_class, char_class, small_class}

@@ -1,8 +1,6 @@
 -- `compare::compare` meets its contract. Assumes nothing.
 use mathlib.Core.Path.{sym, ◌∙◌}
 use native.Mathlib.Omega.{arith}
-use borrow.Author.Tests.{not-true, not-false}
-use borrow.Author.Rules.{rules}
 use Rattle.compare.specs.Walks.{BothTables}
 use Rattle.compare.proofs.Answering.{both_tables, not_left, not_right, long}
 use Rattle.compare.proofs.compare.Goals as goal

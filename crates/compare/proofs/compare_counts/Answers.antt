@@ -1,6 +1,5 @@
 -- `compare::compare_counts` meets its contract. Assumes nothing.
 use native.Mathlib.Omega.{arith}
-use borrow.Author.Rules.{rules}
 use Rattle.compare.proofs.Answering.{long, no_room, one_entry}
 use Rattle.compare.proofs.compare_counts.Goals as goal
 

@@ -1,6 +1,5 @@
 -- `compare::compare_items` meets its contract. Assumes nothing.
 use native.Mathlib.Omega.{arith}
-use borrow.Author.Rules.{rules}
 use Rattle.compare.specs.Walks.{First}
 use Rattle.compare.proofs.ListLaws.{first_of, first_there}
 use Rattle.compare.proofs.Answering.{counts_same, too_short, all_listed, none_listed}

@@ -1,6 +1,5 @@
 -- `listing::list` meets its contract: the text is that of the reading, whatever words the table held before. Assumes nothing.
 use native.Mathlib.Omega.{arith}
-use borrow.Author.Rules.{rules}
 use Rattle.format.proofs.Digits.{bytes_of}
 use Rattle.message.specs.Told.{read_told}
 use Rattle.listing.proofs.ReadTexts.{long_text, long_table, shown, read_table, refused_text_lem, accepts}

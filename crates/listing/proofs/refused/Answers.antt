@@ -1,6 +1,5 @@
 -- `listing::refused` meets its contract: the line in its five parts. Assumes nothing.
 use native.Mathlib.Omega.{arith}
-use borrow.Author.Rules.{rules}
 use lib.ListN.{length-set}
 use Rattle.listing.specs.Lines.{refused_text}
 use Rattle.listing.proofs.WholeText.{over_front}

@@ -1,7 +1,6 @@
 -- `measure::read` meets its contract. Assumes nothing.
 use mathlib.Core.Path.{ap, ◌∙◌}
 use native.Mathlib.Omega.{arith}
-use borrow.Author.Rules.{rules}
 use Rattle.format.specs.Numbers.{Bytes}
 use Rattle.format.proofs.Digits.{bytes_of}
 use Rattle.message.specs.Told.{read_told}

@@ -1,8 +1,6 @@
 -- `measure::write` meets its contract. Assumes nothing.
 use mathlib.Core.Path.{refl, sym, ◌∙◌}
 use native.Mathlib.Omega.{arith}
-use borrow.Author.Rules.{rules}
-use borrow.Author.Tests.{not-true, not-false}
 use Rattle.format.proofs.SignedLaws.{handed_word}
 use Rattle.measure.proofs.SheetCases.{out_of_range, sheet_put}
 use Rattle.measure.proofs.SheetWritten.{unit_refused}

@@ -1,7 +1,6 @@
 -- `normalise` meets its contract. Assumes nothing.
 use Rattle.message.specs.Told.{read_told, write_told}
 use Rattle.message.proofs.WriteCases.{normalise_refused, normalise_written}
-use borrow.Author.Rules.{rules}
 use Rattle.message.proofs.normalise.Goals as goal
 
 pub returns-then-r-ne0 : goal.returns-then-r-ne0

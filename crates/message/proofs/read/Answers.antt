@@ -4,7 +4,6 @@ use native.Mathlib.Omega.{arith}
 use Rattle.format.specs.Messages.{outcome}
 use Rattle.message.specs.Told.{read_told}
 use Rattle.message.proofs.ReadCases.{read_long, read_short, read_refused, read_rows, read_words, read_room, read_well, roomy}
-use borrow.Author.Rules.{rules}
 use Rattle.message.proofs.read.Goals as goal
 
 pub returns-then-message-gt-MOST_BYTES : goal.returns-then-message-gt-MOST_BYTES

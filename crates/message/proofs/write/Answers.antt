@@ -1,7 +1,6 @@
 -- `write` meets its contract. Assumes nothing.
 use Rattle.format.specs.Answers.{writing}
 use Rattle.message.proofs.WriteCases.{written_parts}
-use borrow.Author.Rules.{rules}
 use Rattle.message.proofs.write.Goals as goal
 
 pub returns : goal.returns

@@ -1,7 +1,6 @@
 -- `salvage` meets its contract. Assumes nothing.
 use native.Mathlib.Omega.{arith}
 use mathlib.Core.Path.{ap, ◌∙◌}
-use borrow.Author.Rules.{rules}
 use Rattle.salvage.specs.Told.{salvage_told}
 use Rattle.salvage.proofs.Answering.{answer_long, answer_output, answer_list, answer_rows, answer_words, answer_done, entries_are, room}
 use Rattle.salvage.proofs.salvage.Goals as goal

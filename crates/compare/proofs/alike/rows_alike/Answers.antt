@@ -2,7 +2,6 @@
 use native.Mathlib.Omega.{arith}
 use mathlib.Core.Path.{refl}
 use Prim.Native.Nat.{◌+◌, ◌/◌}
-use borrow.Author.Rules.{rules}
 use Rattle.table.specs.Rows.{a_at}
 use Rattle.compare.proofs.RowPairs.{kinds_differ, a_differs, by_bits, by_text, by_plain, by_group}
 use Rattle.compare.proofs.Walking.{here_rows, BothKept, here_bits, here_text}

@@ -1,8 +1,6 @@
 -- `compare::alike::same_words` meets its contract: what is joined tells of the words passed. Assumes nothing.
 use native.Mathlib.Omega.{arith}
 use mathlib.Core.Path.{◌≡◌, refl}
-use Prim.Native.Nat.{◌≤◌, ◌-◌}
-use lib.Dec.{eqb}
 use Rattle.compare.specs.Walks.{same_words}
 use Rattle.compare.proofs.WordLaws.{joined_on}
 use Rattle.compare.proofs.alike.same_words.Goals as goal

@@ -1,9 +1,7 @@
-use native.Mathlib.Omega.{arith}
-use mathlib.Core.Path.{◌≡◌, refl}
+use mathlib.Core.Path.{◌≡◌}
 use Prim.Native.Nat.{◌≤◌, ◌-◌}
 use lib.Dec.{eqb}
 use Rattle.compare.specs.Walks.{same_words}
-use Rattle.compare.proofs.WordLaws.{joined_on}
 use Rattle.compare.proofs.alike.same_words.Given as goal
 
 abbrev pub invariant-loop-n : goal.invariant-loop-n

@@ -1,9 +1,7 @@
 -- `compare::walk::apart_from` meets its contract: all rows passed are alike. Assumes nothing.
 use native.Mathlib.Omega.{arith}
-use mathlib.Core.Path.{◌≡◌, refl, sym, ◌∙◌}
-use Prim.Native.Nat.{◌-◌}
-use Rattle.table.specs.Rows.{rows_of}
-use Rattle.compare.specs.Walks.{Here, InRows, Passed}
+use mathlib.Core.Path.{refl, sym, ◌∙◌}
+use Rattle.compare.specs.Walks.{Here, InRows}
 use Rattle.compare.proofs.Walking.{here_rows}
 use Rattle.compare.proofs.ListLaws.{pass_starts, pass_here, pass_on, pass_met, pass_end}
 use Rattle.compare.proofs.walk.apart_from.Goals as goal

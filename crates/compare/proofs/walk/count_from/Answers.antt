@@ -1,10 +1,8 @@
 -- `compare::walk::count_from` meets its contract: n differences stand before the rows i and j. Assumes nothing.
 use native.Mathlib.Omega.{arith}
-use mathlib.Core.Path.{◌≡◌, refl}
-use Prim.Native.Nat.{◌-◌}
-use Rattle.table.specs.Rows.{rows_of}
+use mathlib.Core.Path.{refl}
 use Rattle.compare.specs.Walks.{Behind}
-use Rattle.compare.proofs.ListLaws.{Counting, count_starts, count_behind, count_on, count_end}
+use Rattle.compare.proofs.ListLaws.{count_starts, count_behind, count_on, count_end}
 use Rattle.compare.proofs.walk.count_from.Goals as goal
 use Rattle.compare.proofs.walk.count_from.Goals.{In-loop-i}
 

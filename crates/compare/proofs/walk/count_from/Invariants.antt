@@ -1,9 +1,7 @@
-use native.Mathlib.Omega.{arith}
-use mathlib.Core.Path.{◌≡◌, refl}
+use mathlib.Core.Path.{◌≡◌}
 use Prim.Native.Nat.{◌-◌}
 use Rattle.table.specs.Rows.{rows_of}
-use Rattle.compare.specs.Walks.{Behind}
-use Rattle.compare.proofs.ListLaws.{Counting, count_starts, count_behind, count_on, count_end}
+use Rattle.compare.proofs.ListLaws.{Counting}
 use Rattle.compare.proofs.walk.count_from.Given as goal
 
 abbrev pub invariant-loop-i : goal.invariant-loop-i

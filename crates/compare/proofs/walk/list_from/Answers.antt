@@ -1,9 +1,9 @@
 -- `compare::walk::list_from` meets its contract: n differences are listed, that of the rows i and j the last of them. Assumes nothing.
 use native.Mathlib.Omega.{arith}
 use mathlib.Core.Path.{◌≡◌}
-use Prim.Native.Nat.{◌-◌, ◌≤◌}
+use Prim.Native.Nat.{◌≤◌}
 use lib.ListN.{length}
-use Rattle.compare.proofs.ListLaws.{Listing, first_some, list_first, list_behind, list_on, list_end, list_length}
+use Rattle.compare.proofs.ListLaws.{first_some, list_first, list_behind, list_on, list_end, list_length}
 use Rattle.compare.proofs.walk.list_from.Goals as goal
 use Rattle.compare.proofs.walk.list_from.Goals.{After-slice_known-2-1, In-loop-n}
 

@@ -1,8 +1,5 @@
-use native.Mathlib.Omega.{arith}
-use mathlib.Core.Path.{◌≡◌}
 use Prim.Native.Nat.{◌-◌, ◌≤◌}
-use lib.ListN.{length}
-use Rattle.compare.proofs.ListLaws.{Listing, first_some, list_first, list_behind, list_on, list_end, list_length}
+use Rattle.compare.proofs.ListLaws.{Listing}
 use Rattle.compare.proofs.walk.list_from.Given as goal
 
 abbrev pub invariant-loop-n : goal.invariant-loop-n

@@ -1,7 +1,6 @@
 -- `fault::further` meets its contract. Assumes nothing.
 use mathlib.Core.Path.{refl}
 use Rattle.format.specs.Refusals.{further}
-use borrow.Author.Rules.{rules}
 use Rattle.format.proofs.fault.further.Goals as goal
 
 pub returns : goal.returns

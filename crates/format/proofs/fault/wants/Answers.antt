@@ -2,7 +2,6 @@
 use Prim.Native.Nat.{ℕ}
 use mathlib.Core.Path.{ap}
 use Rattle.format.specs.declared.fault.Fault.{Fault}
-use borrow.Author.Rules.{rules}
 use Rattle.format.proofs.fault.wants.Goals as goal
 
 pub returns : goal.returns

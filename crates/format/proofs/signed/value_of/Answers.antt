@@ -1,6 +1,5 @@
 -- `signed::value_of` meets its contract. Assumes nothing.
 use native.Mathlib.Omega.{arith}
-use borrow.Author.Rules.{rules}
 use Rattle.format.proofs.SignedLaws.{to_signed, negative_fits, negative_is}
 use Rattle.format.proofs.signed.value_of.Goals as goal
 

@@ -1,7 +1,6 @@
 -- `tree::is_non_atomic` asks for two ones. Assumes nothing.
 use mathlib.Core.Path.{ap}
 use lib.Dec.{eqb}
-use borrow.Author.Rules.{rules}
 use Rattle.format.proofs.tree.is_non_atomic.Goals as goal
 
 pub returns : goal.returns

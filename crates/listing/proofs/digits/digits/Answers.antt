@@ -1,10 +1,6 @@
 -- `listing::digits::digits` meets its contract: what is left of the number has as many digits less as were counted.
 -- Assumes nothing.
-use Prim.Native.Nat.{◌+◌, ◌≤◌}
-use mathlib.Core.Path.{◌≡◌}
 use native.Mathlib.Omega.{arith}
-use lib.ListN.{length}
-use Rattle.listing.specs.Lines.{decimal}
 use Rattle.listing.proofs.Decimals.{count_one, count_on, count_most, count_pos}
 use Rattle.listing.proofs.digits.digits.Goals as goal
 

@@ -1,9 +1,7 @@
 use Prim.Native.Nat.{◌+◌, ◌≤◌}
 use mathlib.Core.Path.{◌≡◌}
-use native.Mathlib.Omega.{arith}
 use lib.ListN.{length}
 use Rattle.listing.specs.Lines.{decimal}
-use Rattle.listing.proofs.Decimals.{count_one, count_on, count_most, count_pos}
 use Rattle.listing.proofs.digits.digits.Given as goal
 
 abbrev pub invariant-loop-x : goal.invariant-loop-x

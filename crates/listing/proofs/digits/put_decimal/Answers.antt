@@ -1,9 +1,9 @@
 -- `listing::digits::put_decimal` meets its contract: the digits from `i` on stand already, and the rest are those of what is left.
 -- Assumes nothing.
-use Prim.Native.Nat.{◌+◌, ◌-◌, ◌≤◌}
+use Prim.Native.Nat.{◌+◌, ◌-◌}
 use mathlib.Core.Path.{◌≡◌, refl, sym, ap, ◌∙◌}
 use native.Mathlib.Omega.{arith}
-use lib.ListN.{length, length-set}
+use lib.ListN.{length-set}
 use Rattle.listing.specs.Lines.{decimal}
 use Rattle.format.specs.Lent.{over_at}
 use Rattle.listing.proofs.Putting.{nothing}

@@ -1,11 +1,9 @@
 use Prim.Native.Nat.{◌+◌, ◌-◌, ◌≤◌}
-use mathlib.Core.Path.{◌≡◌, refl, sym, ap, ◌∙◌}
-use native.Mathlib.Omega.{arith}
-use lib.ListN.{length, length-set}
+use mathlib.Core.Path.{◌≡◌}
+use lib.ListN.{length}
 use Rattle.listing.specs.Lines.{decimal}
 use Rattle.format.specs.Lent.{over_at}
-use Rattle.listing.proofs.Putting.{nothing}
-use Rattle.listing.proofs.Decimals.{last_digits, all_digits, digit_turn}
+use Rattle.listing.proofs.Decimals.{last_digits}
 use Rattle.listing.proofs.digits.put_decimal.Given as goal
 
 abbrev pub invariant-loop-i : goal.invariant-loop-i

@@ -1,7 +1,6 @@
 -- `listing::digits::put_signed` meets its contract: from 2^63 on a word stands for a negative number. Assumes nothing.
 use mathlib.Core.Path.{ap, ◌∙◌}
 use native.Mathlib.Omega.{arith}
-use borrow.Author.Rules.{rules}
 use lib.ListN.{length, length-set}
 use Rattle.listing.proofs.Putting.{then, byte, wrote_length}
 use Rattle.listing.proofs.Decimals.{signed_plus, signed_minus}

@@ -1,10 +1,9 @@
 -- `listing::digits::put_text` meets its contract: as much of the text stands as bytes were copied. Assumes nothing.
-use Prim.Native.Nat.{◌+◌, ◌-◌, ◌≤◌}
+use Prim.Native.Nat.{◌+◌}
 use mathlib.Core.Path.{◌≡◌, refl}
 use native.Mathlib.Omega.{arith}
-use lib.ListN.{length, take, length-set}
+use lib.ListN.{length-set}
 use lib.Seq.{take_all}
-use Rattle.listing.specs.Puts.{Wrote}
 use Rattle.listing.proofs.Putting.{nothing, text_turn}
 use Rattle.listing.proofs.digits.put_text.Goals as goal
 

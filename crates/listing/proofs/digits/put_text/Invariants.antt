@@ -1,10 +1,7 @@
 use Prim.Native.Nat.{◌+◌, ◌-◌, ◌≤◌}
-use mathlib.Core.Path.{◌≡◌, refl}
-use native.Mathlib.Omega.{arith}
-use lib.ListN.{length, take, length-set}
-use lib.Seq.{take_all}
+use mathlib.Core.Path.{◌≡◌}
+use lib.ListN.{length, take}
 use Rattle.listing.specs.Puts.{Wrote}
-use Rattle.listing.proofs.Putting.{nothing, text_turn}
 use Rattle.listing.proofs.digits.put_text.Given as goal
 
 abbrev pub invariant-loop-i : goal.invariant-loop-i

@@ -1,7 +1,6 @@
 -- `listing::rows::put_bits` meets its contract: the number of bits, then nothing, or a space and the bits. Assumes nothing.
 use mathlib.Core.Path.{ap, ◌∙◌}
 use native.Mathlib.Omega.{arith}
-use borrow.Author.Rules.{rules}
 use lib.ListN.{length, length-set, length-append}
 use Rattle.table.proofs.RowData.{bits_at}
 use Rattle.listing.proofs.Putting.{then, byte, wrote_length}

@@ -1,13 +1,12 @@
 -- `listing::rows::put_codes` meets its contract: the codes so far stand, each behind a space. Assumes nothing.
-use Prim.Native.Nat.{◌+◌, ◌-◌, ◌*◌, ◌≤◌}
-use mathlib.Core.Path.{◌≡◌, refl}
+use mathlib.Core.Path.{refl}
 use native.Mathlib.Omega.{arith}
-use lib.ListN.{drop, get_or, length-set}
+use lib.ListN.{length-set}
 use Rattle.format.specs.Tables.{codes}
-use Rattle.table.specs.Rows.{a_at, b_at, text_at}
+use Rattle.table.specs.Rows.{text_at}
 use Rattle.table.proofs.RowData.{text_kept}
 use Rattle.listing.specs.Lines.{codes_column}
-use Rattle.listing.proofs.Putting.{Part, part_start, part_end, part_room}
+use Rattle.listing.proofs.Putting.{part_start, part_end, part_room}
 use Rattle.listing.proofs.CodeLines.{codes_number, code_in, code_at, codes_end, code_room, code_put}
 use Rattle.listing.proofs.rows.put_codes.Goals as goal
 

@@ -1,6 +1,5 @@
 -- `listing::rows::put_row` meets its contract: depth, kind, value and newline, one behind the other. Assumes nothing.
 use native.Mathlib.Omega.{arith}
-use borrow.Author.Rules.{rules}
 use lib.ListN.{length-set}
 use Rattle.listing.specs.RowTexts.{row_text}
 use Rattle.listing.proofs.Putting.{then, byte}

@@ -1,13 +1,12 @@
 -- `listing::rows::put_stream` meets its contract: as many bits stand as were read from the data words. Assumes nothing.
-use Prim.Native.Nat.{◌+◌, ◌-◌, ◌*◌, ◌≤◌}
+use Prim.Native.Nat.{◌+◌}
 use mathlib.Core.Path.{◌≡◌, refl}
 use native.Mathlib.Omega.{arith}
-use lib.ListN.{length, take, get_or, length-set}
+use lib.ListN.{length-set}
 use lib.Seq.{take_all}
-use Rattle.table.specs.Rows.{a_at, b_at, leaf_at}
+use Rattle.table.specs.Rows.{leaf_at}
 use Rattle.table.proofs.RowData.{bits_at}
 use Rattle.listing.specs.Lines.{bit_text}
-use Rattle.listing.specs.Puts.{Wrote}
 use Rattle.listing.specs.RowTexts.{leaf_bits}
 use Rattle.listing.proofs.Putting.{nothing, text_turn}
 use Rattle.listing.proofs.RowLines.{stream_length, word_in, stream_at}

@@ -1,15 +1,10 @@
 use Prim.Native.Nat.{◌+◌, ◌-◌, ◌*◌, ◌≤◌}
-use mathlib.Core.Path.{◌≡◌, refl}
-use native.Mathlib.Omega.{arith}
-use lib.ListN.{length, take, get_or, length-set}
-use lib.Seq.{take_all}
+use mathlib.Core.Path.{◌≡◌}
+use lib.ListN.{length, take, get_or}
 use Rattle.table.specs.Rows.{a_at, b_at, leaf_at}
-use Rattle.table.proofs.RowData.{bits_at}
 use Rattle.listing.specs.Lines.{bit_text}
 use Rattle.listing.specs.Puts.{Wrote}
 use Rattle.listing.specs.RowTexts.{leaf_bits}
-use Rattle.listing.proofs.Putting.{nothing, text_turn}
-use Rattle.listing.proofs.RowLines.{stream_length, word_in, stream_at}
 use Rattle.listing.proofs.rows.put_stream.Given as goal
 
 abbrev pub invariant-loop-i : goal.invariant-loop-i

@@ -1,7 +1,6 @@
 -- `listing::rows::put_string` meets its contract: the number of characters, and then their codes. Assumes nothing.
 use mathlib.Core.Path.{ap}
 use native.Mathlib.Omega.{arith}
-use borrow.Author.Rules.{rules}
 use lib.ListN.{length, length-append}
 use Rattle.listing.proofs.Putting.{then}
 use Rattle.listing.proofs.CodeLines.{string_value}

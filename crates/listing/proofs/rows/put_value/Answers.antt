@@ -1,7 +1,6 @@
 -- `listing::rows::put_value` meets its contract: the column of each kind. Assumes nothing.
 use mathlib.Core.Path.{ap}
 use native.Mathlib.Omega.{arith}
-use borrow.Author.Rules.{rules}
 use lib.ListN.{length}
 use Rattle.listing.proofs.Putting.{nothing}
 use Rattle.listing.proofs.RowLines.{value_text, value_group, value_int, value_leaf, value_empty, value_plain}

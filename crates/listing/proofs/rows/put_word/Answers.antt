@@ -1,6 +1,5 @@
 -- `listing::rows::put_word` meets its contract: each arm of its `match` writes the word of its kind. Assumes nothing.
 use native.Mathlib.Omega.{arith}
-use borrow.Author.Rules.{rules}
 use Rattle.format.specs.Choice.{if_eq, pick}
 use Rattle.listing.specs.RowTexts.{kind_word}
 use Rattle.listing.proofs.RowLines.{word_length, word_of, last_word_lem}

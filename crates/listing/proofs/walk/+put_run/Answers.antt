@@ -1,14 +1,13 @@
 -- `listing::walk::put_run` meets its contract. The loop keeps the text of the items that are left; the depth still allowed falls at each call.
 -- Assumes nothing.
-use Prim.Native.Nat.{ℕ, ◌+◌, ◌-◌, ◌<◌, ◌≤◌}
+use Prim.Native.Nat.{◌+◌}
 use mathlib.Core.Path.{refl}
 use native.Mathlib.Omega.{arith}
 use lib.ListN.{length-append}
-use Rattle.format.specs.Normal.{depth}
-use Rattle.table.specs.Rows.{b_at, Run, items_at}
+use Rattle.table.specs.Rows.{b_at, items_at}
 use Rattle.table.proofs.RunLaws.{leaf_step, group_step, text_step, leaf_depth, text_depth, group_depth}
 use Rattle.listing.specs.Lines.{lines}
-use Rattle.listing.proofs.Putting.{Part, part_start, part_step, part_end, part_room}
+use Rattle.listing.proofs.Putting.{part_start, part_step, part_end, part_room}
 use Rattle.listing.proofs.RunLines.{row_at, row_first, leaf_lines, group_lines, text_lines, no_lines}
 use Rattle.listing.proofs.walk.+put_run.Goals as goal
 

@@ -1,6 +1,4 @@
 -- `measure::figures::all_fair` meets its contract. Assumes nothing.
-use borrow.Author.Rules.{rules}
-use borrow.Author.Tests.{not-true, not-false}
 use Rattle.measure.specs.SheetRows.{all_fair}
 use Rattle.measure.proofs.RowTests.{test_fails, test_holds}
 use Rattle.measure.proofs.figures.all_fair.Goals as goal

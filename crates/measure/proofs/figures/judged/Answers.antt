@@ -4,8 +4,6 @@ use mathlib.Core.Bool.{true, false}
 use Prim.Native.Nat.{◌≤◌}
 use native.Mathlib.Omega.{arith}
 use lib.ListN.{length}
-use borrow.Author.Rules.{rules}
-use borrow.Author.Tests.{not-true, not-false}
 use Rattle.measure.specs.Sheets.{any_empty}
 use Rattle.measure.specs.SheetRows.{is_sheet, sheet_at}
 use Rattle.measure.specs.Told.{measure_told}

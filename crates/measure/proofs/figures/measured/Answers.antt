@@ -1,7 +1,6 @@
 -- `measure::figures::measured` meets its contract. Assumes nothing.
 use mathlib.Core.Path.{ap, ◌∙◌}
 use native.Mathlib.Omega.{arith}
-use borrow.Author.Rules.{rules}
 use Rattle.format.specs.Numbers.{signed}
 use Rattle.format.proofs.SignedLaws.{handed}
 use Rattle.measure.proofs.Answering.{Small, um_fits, sheet_told}

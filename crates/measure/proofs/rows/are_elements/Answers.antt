@@ -1,6 +1,5 @@
 -- `measure::rows::are_elements` meets its contract. Assumes nothing.
 use native.Mathlib.Omega.{arith}
-use borrow.Author.Tests.{not-true, not-false}
 use Rattle.measure.specs.SheetRows.{are_elements}
 use Rattle.measure.proofs.RowTests.{eq_fails, eq_holds, test_fails, test_holds}
 use Rattle.measure.proofs.TableSheets.{rows_room}

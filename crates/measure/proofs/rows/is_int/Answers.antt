@@ -1,6 +1,5 @@
 -- `measure::rows::is_int` meets its contract. Assumes nothing.
 use mathlib.Core.Path.{ap}
-use borrow.Author.Rules.{rules}
 use lib.Dec.{eqb}
 use Rattle.measure.specs.SheetRows.{is_int}
 use Rattle.measure.proofs.RowTests.{eq_fails, eq_holds}

@@ -1,6 +1,5 @@
 -- `measure::rows::is_sheet` meets its contract. Assumes nothing.
 use mathlib.Core.Path.{sym, ◌∙◌}
-use borrow.Author.Tests.{not-true, not-false}
 use Rattle.measure.specs.SheetRows.{is_sheet}
 use Rattle.measure.proofs.RowTests.{test_fails, test_holds}
 use Rattle.measure.proofs.TableSheets.{one_edt_rows}

@@ -1,7 +1,6 @@
 -- `parts::alone` meets its contract. Assumes nothing.
 use native.Mathlib.Omega.{arith}
 use mathlib.Core.Path.{sym, ◌∙◌}
-use borrow.Author.Rules.{rules}
 use Rattle.format.specs.Messages.{outcome}
 use Rattle.salvage.proofs.Verdicts.{verdict_refused, verdict_rows, verdict_words, verdict_sound}
 use Rattle.salvage.proofs.parts.alone.Goals as goal

@@ -1,7 +1,6 @@
 -- `parts::bytes_of` meets its contract. Assumes nothing.
 use mathlib.Core.Path.{sym, ap, ◌∙◌}
 use mathlib.Core.Option.{some}
-use borrow.Author.Rules.{rules}
 use Rattle.format.specs.declared.Class.TheVariants as C
 use Rattle.format.specs.Objects.{size}
 use Rattle.format.specs.Extents.{extent_by}

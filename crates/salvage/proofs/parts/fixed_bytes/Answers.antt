@@ -1,6 +1,5 @@
 -- `parts::fixed_bytes` meets its contract. Assumes nothing.
 use native.Mathlib.Omega.{arith}
-use borrow.Author.Rules.{rules}
 use Rattle.salvage.proofs.ExtentLaws.{fixed_past, fixed_lying}
 use Rattle.salvage.proofs.parts.fixed_bytes.Goals as goal
 

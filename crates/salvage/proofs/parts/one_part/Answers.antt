@@ -3,7 +3,6 @@ use Prim.Native.Nat.{◌+◌, ◌-◌, ◌≤◌}
 use native.Mathlib.Omega.{arith}
 use mathlib.Core.Path.{◌∙◌}
 use lib.ListN.{length}
-use borrow.Author.Rules.{rules}
 use Rattle.salvage.proofs.PartFound.{part_short, part_fits, part_rest, part_whole}
 use Rattle.salvage.proofs.parts.one_part.Goals as goal
 use Rattle.salvage.proofs.parts.one_part.Goals.{Else-n-eq0}

@@ -1,7 +1,6 @@
 -- `parts::part_at` meets its contract. Assumes nothing.
 use native.Mathlib.Omega.{arith}
 use mathlib.Core.Logic.{inl}
-use borrow.Author.Rules.{rules}
 use Rattle.salvage.proofs.PartFound.{front_found}
 use Rattle.salvage.proofs.parts.part_at.Goals as goal
 

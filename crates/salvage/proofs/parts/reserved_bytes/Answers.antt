@@ -1,7 +1,6 @@
 -- `parts::reserved_bytes` meets its contract. Assumes nothing.
 use native.Mathlib.Omega.{arith}
 use mathlib.Core.Path.{sym, ap, ◌∙◌}
-use borrow.Author.Rules.{rules}
 use Rattle.salvage.specs.Mending.{lying}
 use Rattle.salvage.specs.Told.{bytes_told}
 use Rattle.salvage.proofs.OwnExtents.{unassigned_own}

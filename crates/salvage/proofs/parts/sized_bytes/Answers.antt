@@ -1,6 +1,5 @@
 -- `parts::sized_bytes` meets its contract. Assumes nothing.
 use native.Mathlib.Omega.{arith}
-use borrow.Author.Rules.{rules}
 use Rattle.salvage.proofs.ExtentLaws.{past_told, within_told, within_fits}
 use Rattle.salvage.proofs.parts.sized_bytes.Goals as goal
 

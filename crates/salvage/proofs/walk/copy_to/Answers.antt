@@ -1,10 +1,7 @@
 -- `walk::copy_to` meets its contract. Assumes nothing.
-use Prim.Native.Nat.{◌-◌}
 use native.Mathlib.Omega.{arith}
 use mathlib.Core.Path.{refl}
-use lib.ListN.{length}
-use borrow.Author.Rules.{rules}
-use Rattle.salvage.proofs.Copying.{Copied, copied_start, copied_step, copied_end}
+use Rattle.salvage.proofs.Copying.{copied_start, copied_step, copied_end}
 use Rattle.salvage.proofs.walk.copy_to.Goals as goal
 
 pub loop-i-preserved : goal.loop-i-preserved

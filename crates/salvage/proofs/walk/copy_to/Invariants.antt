@@ -1,9 +1,6 @@
 use Prim.Native.Nat.{◌-◌}
-use native.Mathlib.Omega.{arith}
-use mathlib.Core.Path.{refl}
 use lib.ListN.{length}
-use borrow.Author.Rules.{rules}
-use Rattle.salvage.proofs.Copying.{Copied, copied_start, copied_step, copied_end}
+use Rattle.salvage.proofs.Copying.{Copied}
 use Rattle.salvage.proofs.walk.copy_to.Given as goal
 
 abbrev pub invariant-loop-i : goal.invariant-loop-i

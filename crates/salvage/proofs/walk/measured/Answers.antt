@@ -1,5 +1,4 @@
 -- `walk::measured` meets its contract. Assumes nothing.
-use borrow.Author.Rules.{rules}
 use Rattle.salvage.proofs.Surveying.{measured_whole}
 use Rattle.salvage.proofs.walk.measured.Goals as goal
 

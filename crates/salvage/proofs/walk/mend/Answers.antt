@@ -1,5 +1,4 @@
 -- `walk::mend` meets its contract. Assumes nothing.
-use borrow.Author.Rules.{rules}
 use Rattle.salvage.proofs.Laying.{front_length, front_fits, front_there, front_room, front_out}
 use Rattle.salvage.proofs.walk.mend.Goals as goal
 

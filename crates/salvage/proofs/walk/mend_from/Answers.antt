@@ -1,11 +1,10 @@
 -- `walk::mend_from` meets its contract. Assumes nothing.
-use Prim.Native.Nat.{◌-◌, ◌≤◌}
+use Prim.Native.Nat.{◌≤◌}
 use native.Mathlib.Omega.{arith}
 use lib.ListN.{length}
-use borrow.Author.Rules.{rules}
 use Rattle.salvage.specs.Mending.{changes_in}
 use Rattle.salvage.proofs.PartCases.{part_upto}
-use Rattle.salvage.proofs.Laying.{Laid, out_long, list_long, laid_start, same_long, few, some_left, lost_room, lost_out, lost_list}
+use Rattle.salvage.proofs.Laying.{out_long, list_long, laid_start, same_long, few, some_left, lost_room, lost_out, lost_list}
 use Rattle.salvage.proofs.Laying.{kept_copy, laid_kept, replaced_room, laid_replaced, end_room, end_out, end_list}
 use Rattle.salvage.proofs.walk.mend_from.Goals as goal
 

@@ -2,7 +2,6 @@
 use Prim.Native.Nat.{◌*◌}
 use native.Mathlib.Omega.{arith}
 use lib.ListN.{length-set}
-use borrow.Author.Rules.{rules}
 use Rattle.format.proofs.Over.{set_three}
 use Rattle.salvage.proofs.walk.put_change.Goals as goal
 

@@ -1,10 +1,7 @@
 -- `walk::survey` meets its contract. Assumes nothing.
-use Prim.Native.Nat.{◌-◌}
 use native.Mathlib.Omega.{arith}
-use lib.ListN.{length}
-use borrow.Author.Rules.{rules}
 use Rattle.salvage.proofs.PartCases.{part_upto}
-use Rattle.salvage.proofs.Surveying.{Surveyed, survey_start, survey_kept, survey_few, survey_replaced, survey_lost, survey_end}
+use Rattle.salvage.proofs.Surveying.{survey_start, survey_kept, survey_few, survey_replaced, survey_lost, survey_end}
 use Rattle.salvage.proofs.walk.survey.Goals as goal
 
 pub returns-then-part-eq0 : goal.returns-then-part-eq0

@@ -1,9 +1,6 @@
 use Prim.Native.Nat.{◌-◌}
-use native.Mathlib.Omega.{arith}
 use lib.ListN.{length}
-use borrow.Author.Rules.{rules}
-use Rattle.salvage.proofs.PartCases.{part_upto}
-use Rattle.salvage.proofs.Surveying.{Surveyed, survey_start, survey_kept, survey_few, survey_replaced, survey_lost, survey_end}
+use Rattle.salvage.proofs.Surveying.{Surveyed}
 use Rattle.salvage.proofs.walk.survey.Given as goal
 
 abbrev pub invariant-loop-p : goal.invariant-loop-p

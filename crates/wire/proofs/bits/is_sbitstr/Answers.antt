@@ -1,7 +1,6 @@
 -- `bits::is_sbitstr` tells the byte by its class. Assumes nothing.
 use native.Mathlib.Omega.{arith}
 use Rattle.wire.proofs.ClassCases.{class_told, class_not, sbitstr_tells}
-use borrow.Author.Rules.{rules}
 use Rattle.wire.proofs.bits.is_sbitstr.Goals as goal
 
 pub returns-in-Sbitstr : goal.returns-in-Sbitstr

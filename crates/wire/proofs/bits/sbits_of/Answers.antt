@@ -3,13 +3,11 @@ use native.Mathlib.Omega.{arith}
 use mathlib.Core.Path.{◌≡◌, sym, ◌∙◌}
 use Prim.Native.Nat.{◌/◌, ◌<◌}
 use borrow.Author.Tests.{eqb-true}
-use Rattle.format.proofs.Choices.{held}
 use lib.ListN.{get_or}
 use Rattle.format.proofs.Digits.{bytes_of}
 use Rattle.format.proofs.OnesLaws.{zeros_ones}
 use Rattle.wire.proofs.Sbits.{zeros_few}
 use Rattle.wire.proofs.MarkedLaws.{bits_at}
-use borrow.Author.Rules.{rules}
 use Rattle.wire.proofs.bits.sbits_of.Goals as goal
 
 pub overflow_sub-result : goal.overflow_sub-result

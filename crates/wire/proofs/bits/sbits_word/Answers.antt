@@ -4,7 +4,6 @@ use mathlib.Core.Path.{ap, ◌∙◌}
 use lib.ListN.{take}
 use Rattle.format.specs.Numbers.{val}
 use Rattle.wire.specs.Heads.{marked_word}
-use borrow.Author.Rules.{rules}
 use Rattle.wire.proofs.bits.sbits_word.Goals as goal
 
 pub returns : goal.returns

@@ -1,7 +1,6 @@
 -- `head::contents_of` meets its contract. Assumes nothing.
 use native.Mathlib.Omega.{arith}
 use Rattle.wire.proofs.HeadLaws.{contents_deep, contents_wanting, contents_in}
-use borrow.Author.Rules.{rules}
 use Rattle.wire.proofs.head.contents_of.Goals as goal
 
 pub returns-then-depth-ge-DEEPEST : goal.returns-then-depth-ge-DEEPEST

@@ -11,7 +11,6 @@ use Rattle.format.specs.Objects.{found}
 use Rattle.format.proofs.SignedLaws.{found_negative, found_natural, kept, cast_mag}
 use Rattle.wire.specs.Heads.{LeadingIs}
 use Rattle.wire.proofs.HeadLaws.{count_absent, count_cut, count_negative, count_right}
-use borrow.Author.Rules.{rules}
 use Rattle.wire.proofs.head.count_of.Goals as goal
 
 pub overflow_add-h-in-Cut : goal.overflow_add-h-in-Cut

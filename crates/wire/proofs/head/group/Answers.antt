@@ -1,6 +1,5 @@
 -- `head::group` meets its contract. Assumes nothing.
 use Rattle.wire.proofs.HeadLaws.{group_stop, group_open}
-use borrow.Author.Rules.{rules}
 use Rattle.wire.proofs.head.group.Goals as goal
 
 pub returns-in-Outside : goal.returns-in-Outside

@@ -7,7 +7,6 @@ use Rattle.format.specs.Objects.{head_by}
 use Rattle.wire.specs.Heads.{wrap_of}
 use Rattle.wire.proofs.ClassCases.{of_class}
 use Rattle.wire.proofs.HeadLaws.{stopped, by_class, char_row, sinteger_row, xtra_row, bool_row, empty_row, padding_gap, reserved_stop}
-use borrow.Author.Rules.{rules}
 use Rattle.wire.proofs.head.head_of.Goals as goal
 
 pub returns-in-Char7 : goal.returns-in-Char7

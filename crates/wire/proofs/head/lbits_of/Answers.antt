@@ -4,7 +4,6 @@ use Rattle.format.specs.Bits.{bytes_for}
 use Rattle.format.proofs.Choices.{if_eq_yes, if_eq_no}
 use Rattle.wire.specs.declared.head.Head.TheVariants.{Stop}
 use Rattle.wire.specs.Heads.{lbits_of}
-use borrow.Author.Rules.{rules}
 use Rattle.wire.proofs.head.lbits_of.Goals as goal
 
 pub returns-then-size-u : goal.returns-then-size-u

@@ -7,7 +7,6 @@ use Rattle.format.specs.declared.Class.TheVariants as C
 use Rattle.format.specs.Objects.{head_by}
 use Rattle.wire.specs.Heads.{HeadIs}
 use Rattle.wire.proofs.HeadLaws.{extent_within, lent_length, count_fits, lbitstr_wanting, lbitstr_wrong, lbitstr_right}
-use borrow.Author.Rules.{rules}
 use Rattle.wire.proofs.head.lbitstr.Goals as goal
 use Rattle.wire.proofs.head.lbitstr.Goals.{In-Within}
 

@@ -3,7 +3,6 @@ use native.Mathlib.Omega.{arith}
 use Rattle.format.proofs.SignedLaws.{handed_word}
 use Rattle.format.specs.Objects.{head_by, linteger_head}
 use Rattle.wire.proofs.HeadLaws.{fixed_stop, linteger_row}
-use borrow.Author.Rules.{rules}
 use Rattle.wire.proofs.head.linteger.Goals as goal
 
 pub returns-then-s-k : goal.returns-then-s-k

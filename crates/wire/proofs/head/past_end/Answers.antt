@@ -3,7 +3,6 @@ use mathlib.Core.Path.{sym, ap, ◌∙◌}
 use Rattle.format.specs.Refusals.{wants}
 use Rattle.format.specs.Objects.{past_end}
 use Rattle.wire.proofs.HeadLaws.{past_outer, past_inner}
-use borrow.Author.Rules.{rules}
 use Rattle.wire.proofs.head.past_end.Goals as goal
 
 pub returns-then-depth-eq0 : goal.returns-then-depth-eq0

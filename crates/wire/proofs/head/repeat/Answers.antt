@@ -8,7 +8,6 @@ use Rattle.format.specs.Objects.{head_by}
 use Rattle.wire.specs.declared.head.Head.TheVariants.{Stop}
 use Rattle.wire.specs.Heads.{HeadIs}
 use Rattle.wire.proofs.HeadLaws.{stopped, lent_length, count_fits, contained_inside, repeat_outer, repeat_stop, repeat_wrong, repeat_open}
-use borrow.Author.Rules.{rules}
 use Rattle.wire.proofs.head.repeat.Goals as goal
 use Rattle.wire.proofs.head.repeat.Goals.{In-Inside, In-Right}
 

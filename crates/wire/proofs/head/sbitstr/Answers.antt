@@ -8,7 +8,6 @@ use Rattle.format.proofs.OnesLaws.{zeros_ones}
 use Rattle.wire.proofs.Sbits.{zeros_few}
 use Rattle.format.specs.Objects.{head_by, sbitstr_head}
 use Rattle.wire.proofs.HeadLaws.{stopped, fixed_stop, sbitstr_bad, sbitstr_sbits}
-use borrow.Author.Rules.{rules}
 use Rattle.wire.proofs.head.sbitstr.Goals as goal
 
 pub returns-then-s-k : goal.returns-then-s-k

@@ -1,6 +1,5 @@
 -- `head::string` meets its contract. Assumes nothing.
 use Rattle.wire.proofs.HeadLaws.{string_stop, string_text}
-use borrow.Author.Rules.{rules}
 use Rattle.wire.proofs.head.string.Goals as goal
 
 pub returns-in-Outside : goal.returns-in-Outside

@@ -4,7 +4,6 @@ use Rattle.format.specs.Objects.{following}
 use Rattle.format.proofs.Choices.{by_eq}
 use Prim.Native.Nat.{◌+◌, ◌%◌}
 use mathlib.Core.Path.{◌≡◌}
-use borrow.Author.Rules.{rules}
 use Rattle.wire.proofs.integer.following_of.Goals as goal
 
 pub returns : goal.returns

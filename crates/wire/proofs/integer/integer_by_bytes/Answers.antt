@@ -2,7 +2,6 @@
 use mathlib.Core.Path.{◌∙◌}
 use native.Mathlib.Omega.{arith}
 use Rattle.wire.proofs.Integers.{raised, integer_is}
-use borrow.Author.Rules.{rules}
 use Rattle.wire.proofs.integer.integer_by_bytes.Goals as goal
 
 pub returns : goal.returns

@@ -1,7 +1,6 @@
 -- `integer::is_linteger` tells the byte by its class. Assumes nothing.
 use native.Mathlib.Omega.{arith}
 use Rattle.wire.proofs.ClassCases.{class_told, class_not, linteger_tells}
-use borrow.Author.Rules.{rules}
 use Rattle.wire.proofs.integer.is_linteger.Goals as goal
 
 pub returns-in-Linteger : goal.returns-in-Linteger

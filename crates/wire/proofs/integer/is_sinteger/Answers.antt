@@ -1,7 +1,6 @@
 -- `integer::is_sinteger` tells the byte by its class. Assumes nothing.
 use native.Mathlib.Omega.{arith}
 use Rattle.wire.proofs.ClassCases.{class_told, class_not, sinteger_tells}
-use borrow.Author.Rules.{rules}
 use Rattle.wire.proofs.integer.is_sinteger.Goals as goal
 
 pub returns-in-Sinteger : goal.returns-in-Sinteger

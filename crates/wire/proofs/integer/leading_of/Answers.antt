@@ -3,12 +3,9 @@ use native.Mathlib.Omega.{arith}
 use mathlib.Core.Path.{refl, sym, ◌∙◌, subst}
 use Prim.Native.Nat.{◌%◌}
 use lib.ListN.{get_or}
-use mathlib.Core.List.{[], ◌∷◌}
-use Rattle.format.specs.declared.Class.TheVariants as C
 use Rattle.format.proofs.SignedLaws.{to_pos}
 use Rattle.wire.specs.Heads.{LeadingIs}
 use Rattle.wire.proofs.Leadings.{skip_all, leading_small, leading_long, leading_other}
-use borrow.Author.Rules.{rules}
 use Rattle.wire.proofs.integer.leading_of.Goals as goal
 
 pub returns-then-i-s : goal.returns-then-i-s

@@ -2,7 +2,6 @@
 use Rattle.wire.proofs.Leadings.{linteger_cut, linteger_found}
 use native.Mathlib.Omega.{arith}
 use Rattle.format.proofs.SignedLaws.{handed}
-use borrow.Author.Rules.{rules}
 use Rattle.wire.proofs.integer.linteger_at.Goals as goal
 
 pub returns-then-there-k : goal.returns-then-there-k

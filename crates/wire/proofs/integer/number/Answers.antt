@@ -1,7 +1,6 @@
 -- `integer::number` meets its contract. Assumes nothing.
 use native.Mathlib.Omega.{arith}
 use Rattle.wire.proofs.WordLaws.{number_high}
-use borrow.Author.Rules.{rules}
 use Rattle.wire.proofs.integer.number.Goals as goal
 
 pub returns-then-s-ge8 : goal.returns-then-s-ge8

@@ -1,7 +1,6 @@
 -- `integer::signed_high` meets its contract. Assumes nothing.
 use native.Mathlib.Omega.{arith}
 use Rattle.wire.proofs.Integers.{shifted}
-use borrow.Author.Rules.{rules}
 use Rattle.wire.proofs.integer.signed_high.Goals as goal
 
 pub returns : goal.returns

@@ -1,10 +1,5 @@
 -- `integer::unpadded` meets its contract. Assumes nothing.
-use Prim.Native.Nat.{◌-◌, ◌≤◌}
-use mathlib.Core.Path.{◌≡◌}
 use native.Mathlib.Omega.{arith}
-use lib.ListN.{length, drop}
-use Rattle.format.specs.Objects.{leading}
-use Rattle.wire.specs.Heads.{onward}
 use Rattle.wire.proofs.Leadings.{skip_none, skip_one}
 use Rattle.wire.proofs.integer.unpadded.Goals as goal
 

@@ -1,7 +1,6 @@
 -- `letters::is_char` tells the byte by its class. Assumes nothing.
 use native.Mathlib.Omega.{arith}
 use Rattle.wire.proofs.ClassCases.{class_told, class_not, char_tells}
-use borrow.Author.Rules.{rules}
 use Rattle.wire.proofs.letters.is_char.Goals as goal
 
 pub returns-in-Char7 : goal.returns-in-Char7

@@ -1,7 +1,6 @@
 -- `letters::is_padding` tells the byte by its class. Assumes nothing.
 use native.Mathlib.Omega.{arith}
 use Rattle.wire.proofs.ClassCases.{class_told, class_not, padding_tells}
-use borrow.Author.Rules.{rules}
 use Rattle.wire.proofs.letters.is_padding.Goals as goal
 
 pub returns-in-Padding : goal.returns-in-Padding

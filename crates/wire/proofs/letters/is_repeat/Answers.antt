@@ -1,7 +1,6 @@
 -- `letters::is_repeat` tells the byte by its class. Assumes nothing.
 use native.Mathlib.Omega.{arith}
 use Rattle.wire.proofs.ClassCases.{class_told, class_not, repeat_tells}
-use borrow.Author.Rules.{rules}
 use Rattle.wire.proofs.letters.is_repeat.Goals as goal
 
 pub returns-in-Repeat : goal.returns-in-Repeat

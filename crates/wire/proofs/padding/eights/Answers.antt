@@ -1,11 +1,8 @@
 -- `padding::eights` meets its contract: up to e every byte from i on is padding. Assumes nothing.
 use native.Mathlib.Omega.{arith}
-use Prim.Native.Nat.{◌+◌, ◌-◌}
-use lib.ListN.{length}
-use Rattle.wire.specs.Ranges.{Ranged}
+use Prim.Native.Nat.{◌+◌}
 use Rattle.wire.proofs.Ranges.{ranged_none, ranged_join}
 use Rattle.wire.proofs.WordLaws.{all_ones}
-use borrow.Author.Rules.{rules}
 use Rattle.wire.proofs.padding.eights.Goals as goal
 
 pub loop-e-init : goal.loop-e-init

@@ -1,10 +1,6 @@
-use native.Mathlib.Omega.{arith}
-use Prim.Native.Nat.{◌+◌, ◌-◌}
+use Prim.Native.Nat.{◌-◌}
 use lib.ListN.{length}
 use Rattle.wire.specs.Ranges.{Ranged}
-use Rattle.wire.proofs.Ranges.{ranged_none, ranged_join}
-use Rattle.wire.proofs.WordLaws.{all_ones}
-use borrow.Author.Rules.{rules}
 use Rattle.wire.proofs.padding.eights.Given as goal
 
 abbrev pub invariant-loop-e : goal.invariant-loop-e

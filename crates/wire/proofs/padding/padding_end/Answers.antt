@@ -1,9 +1,5 @@
 -- `padding_end` meets its contract: what `eights` leaves, a byte at a time. Assumes nothing.
-use borrow.Author.Rules.{rules}
 use native.Mathlib.Omega.{arith}
-use Prim.Native.Nat.{◌-◌}
-use lib.ListN.{length}
-use Rattle.wire.specs.Ranges.{Ranged}
 use Rattle.wire.proofs.Ranges.{ranged_next}
 use Rattle.wire.proofs.padding.padding_end.Goals as goal
 

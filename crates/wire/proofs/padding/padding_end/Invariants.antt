@@ -1,9 +1,6 @@
-use borrow.Author.Rules.{rules}
-use native.Mathlib.Omega.{arith}
 use Prim.Native.Nat.{◌-◌}
 use lib.ListN.{length}
 use Rattle.wire.specs.Ranges.{Ranged}
-use Rattle.wire.proofs.Ranges.{ranged_next}
 use Rattle.wire.proofs.padding.padding_end.Given as goal
 
 abbrev pub invariant-loop-e : goal.invariant-loop-e

@@ -3,7 +3,6 @@ use mathlib.Core.Path.{◌≡◌, refl, sym, ◌∙◌}
 use mathlib.Core.Bool.{false}
 use lib.Dec.{eqb}
 use Rattle.wire.specs.Heads.{has_elements}
-use borrow.Author.Rules.{rules}
 use Rattle.wire.proofs.short.has_elements.Goals as goal
 use Rattle.wire.proofs.short.has_elements.Goals.{Else-is_edt, Else-is_struc}
 

@@ -1,7 +1,6 @@
 -- `short::is_edt` tells the byte by its class. Assumes nothing.
 use native.Mathlib.Omega.{arith}
 use Rattle.wire.proofs.ClassCases.{class_told, class_not, edt_tells}
-use borrow.Author.Rules.{rules}
 use Rattle.wire.proofs.short.is_edt.Goals as goal
 
 pub returns-in-Edt : goal.returns-in-Edt

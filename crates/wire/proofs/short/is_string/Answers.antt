@@ -1,7 +1,6 @@
 -- `short::is_string` tells the byte by its class. Assumes nothing.
 use native.Mathlib.Omega.{arith}
 use Rattle.wire.proofs.ClassCases.{class_told, class_not, string_tells}
-use borrow.Author.Rules.{rules}
 use Rattle.wire.proofs.short.is_string.Goals as goal
 
 pub returns-in-String : goal.returns-in-String

@@ -1,7 +1,6 @@
 -- `short::is_struc` tells the byte by its class. Assumes nothing.
 use native.Mathlib.Omega.{arith}
 use Rattle.wire.proofs.ClassCases.{class_told, class_not, struc_tells}
-use borrow.Author.Rules.{rules}
 use Rattle.wire.proofs.short.is_struc.Goals as goal
 
 pub returns-in-Struc : goal.returns-in-Struc

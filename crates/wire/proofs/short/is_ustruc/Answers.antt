@@ -1,7 +1,6 @@
 -- `short::is_ustruc` tells the byte by its class. Assumes nothing.
 use native.Mathlib.Omega.{arith}
 use Rattle.wire.proofs.ClassCases.{class_told, class_not, ustruc_tells}
-use borrow.Author.Rules.{rules}
 use Rattle.wire.proofs.short.is_ustruc.Goals as goal
 
 pub returns-in-Ustruc : goal.returns-in-Ustruc

@@ -1,9 +1,7 @@
 -- `short::short_size` meets its contract. Assumes nothing.
 use native.Mathlib.Omega.{arith}
 use mathlib.Core.Path.{sym, ◌∙◌}
-use Rattle.format.proofs.Choices.{held}
 use Rattle.wire.proofs.ShortLaws.{one_of, short_at}
-use borrow.Author.Rules.{rules}
 use Rattle.wire.proofs.short.short_size.Goals as goal
 
 pub returns : goal.returns

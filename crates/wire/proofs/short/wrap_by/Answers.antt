@@ -2,7 +2,6 @@
 use mathlib.Core.Path.{refl, sym, ◌∙◌}
 use Rattle.format.specs.Choice.{if_eq}
 use Rattle.wire.specs.Heads.{wrap_by}
-use borrow.Author.Rules.{rules}
 use Rattle.wire.proofs.short.wrap_by.Goals as goal
 
 pub returns-then-is_edt : goal.returns-then-is_edt

@@ -5,7 +5,6 @@ use native.Mathlib.Omega.{arith}
 use Rattle.format.proofs.Choices.{if_lt_yes, if_lt_no}
 use Rattle.wire.specs.Extents.{extent_at}
 use mathlib.Core.Path.{sym}
-use borrow.Author.Rules.{rules}
 use Rattle.wire.proofs.size.extent_at.Goals as goal
 
 pub returns-then-there-n : goal.returns-then-there-n

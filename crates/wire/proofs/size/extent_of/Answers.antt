@@ -6,7 +6,6 @@ use lib.ListN.{length, take, drop}
 use Rattle.format.specs.Numbers.{val}
 use Rattle.wire.specs.Extents.{ExtentIs}
 use Rattle.wire.proofs.Sizes.{extent_cut, extent_is, size_none, size_zero, size_short, size_long, size_long_cut}
-use borrow.Author.Rules.{rules}
 use Rattle.wire.proofs.size.extent_of.Goals as goal
 
 pub returns-then-s-eq0 : goal.returns-then-s-eq0

@@ -3,7 +3,6 @@ use Prim.Native.Nat.{◌-◌}
 use Rattle.format.proofs.Choices.{if_eq_yes, if_eq_no}
 use Rattle.wire.specs.Extents.{long_count}
 use mathlib.Core.Path.{sym, ap, ◌∙◌}
-use borrow.Author.Rules.{rules}
 use Rattle.wire.proofs.size.long_count.Goals as goal
 
 pub returns-then-b-eq128 : goal.returns-then-b-eq128

@@ -1,8 +1,6 @@
 -- `size::long_size` meets its contract. Assumes nothing.
-use Prim.Native.Nat.{◌-◌, ◌≤◌, min}
 use mathlib.Core.Path.{◌≡◌, refl, ◌∙◌}
 use native.Mathlib.Omega.{arith}
-use lib.ListN.{take, drop}
 use Rattle.format.specs.Numbers.{val}
 use Rattle.wire.proofs.Sizes.{size_step}
 use Rattle.wire.proofs.size.long_size.Goals as goal

@@ -1,9 +1,7 @@
 use Prim.Native.Nat.{◌-◌, ◌≤◌, min}
-use mathlib.Core.Path.{◌≡◌, refl, ◌∙◌}
-use native.Mathlib.Omega.{arith}
+use mathlib.Core.Path.{◌≡◌}
 use lib.ListN.{take, drop}
 use Rattle.format.specs.Numbers.{val}
-use Rattle.wire.proofs.Sizes.{size_step}
 use Rattle.wire.proofs.size.long_size.Given as goal
 
 abbrev pub invariant-loop-i : goal.invariant-loop-i

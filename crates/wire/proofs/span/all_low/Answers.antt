@@ -1,12 +1,11 @@
 -- `span::all_low` meets its contract: what `eights` leaves, a byte at a time. Assumes nothing.
 use native.Mathlib.Omega.{arith}
-use Prim.Native.Nat.{◌-◌, ◌≤◌, zero-le}
+use Prim.Native.Nat.{zero-le}
 use mathlib.Core.Bool.{false≢true}
 use mathlib.Core.Path.{◌≡◌, subst}
 use lib.ListN.{length}
 use Rattle.wire.specs.Ranges.{Between}
 use Rattle.wire.proofs.Ranges.{between_next}
-use borrow.Author.Rules.{rules}
 use Rattle.wire.proofs.span.all_low.Goals as goal
 
 pub returns-then-s-e-ge128 : goal.returns-then-s-e-ge128

@@ -1,11 +1,6 @@
-use native.Mathlib.Omega.{arith}
-use Prim.Native.Nat.{◌-◌, ◌≤◌, zero-le}
-use mathlib.Core.Bool.{false≢true}
-use mathlib.Core.Path.{◌≡◌, subst}
+use Prim.Native.Nat.{◌-◌, ◌≤◌}
 use lib.ListN.{length}
 use Rattle.wire.specs.Ranges.{Between}
-use Rattle.wire.proofs.Ranges.{between_next}
-use borrow.Author.Rules.{rules}
 use Rattle.wire.proofs.span.all_low.Given as goal
 
 abbrev pub invariant-loop-e : goal.invariant-loop-e

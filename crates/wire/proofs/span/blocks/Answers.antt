@@ -1,10 +1,7 @@
 -- `span::blocks` meets its contract: up to e every byte from i on lies within the range. Assumes nothing.
 use native.Mathlib.Omega.{arith}
-use Prim.Native.Nat.{◌+◌, ◌-◌}
-use lib.ListN.{length}
-use Rattle.wire.specs.Ranges.{Ranged}
+use Prim.Native.Nat.{◌+◌}
 use Rattle.wire.proofs.Ranges.{ranged_none, ranged_join, between_wider}
-use borrow.Author.Rules.{rules}
 use Rattle.wire.proofs.span.blocks.Goals as goal
 
 pub loop-e-init : goal.loop-e-init

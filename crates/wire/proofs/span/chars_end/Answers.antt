@@ -1,10 +1,7 @@
 -- `span::chars_end` meets its contract: what `blocks` and `eights` leave, a byte at a time. Assumes nothing.
 use native.Mathlib.Omega.{arith}
-use Prim.Native.Nat.{◌-◌, zero-le}
-use lib.ListN.{length}
-use Rattle.wire.specs.Ranges.{Ranged}
+use Prim.Native.Nat.{zero-le}
 use Rattle.wire.proofs.Ranges.{ranged_join, ranged_next}
-use borrow.Author.Rules.{rules}
 use Rattle.wire.proofs.span.chars_end.Goals as goal
 
 pub loop-e-init : goal.loop-e-init

@@ -1,11 +1,8 @@
 -- `span::eights` meets its contract: up to e every byte from i on is below 128. Assumes nothing.
 use native.Mathlib.Omega.{arith}
-use Prim.Native.Nat.{◌+◌, ◌-◌}
-use lib.ListN.{length}
-use Rattle.wire.specs.Ranges.{Ranged}
+use Prim.Native.Nat.{◌+◌}
 use Rattle.wire.proofs.Ranges.{ranged_none, ranged_join}
 use Rattle.wire.proofs.WordLaws.{all_low_lem}
-use borrow.Author.Rules.{rules}
 use Rattle.wire.proofs.span.eights.Goals as goal
 
 pub loop-e-init : goal.loop-e-init

@@ -1,9 +1,8 @@
 -- `span::spread_of` meets its contract: up to j every byte lies between the least and the greatest so far. Assumes nothing.
-use borrow.Author.Rules.{rules}
 use native.Mathlib.Omega.{arith}
 use native.Mathlib.Nat.{add-zero}
 use mathlib.Core.Path.{◌≡◌, subst}
-use Prim.Native.Nat.{◌+◌, ◌-◌, ◌≤◌}
+use Prim.Native.Nat.{◌+◌}
 use Rattle.wire.specs.Ranges.{Between}
 use Rattle.wire.proofs.Ranges.{between_none, between_next, between_wider}
 use Rattle.wire.proofs.span.spread_of.Goals as goal

@@ -1,10 +1,5 @@
-use borrow.Author.Rules.{rules}
-use native.Mathlib.Omega.{arith}
-use native.Mathlib.Nat.{add-zero}
-use mathlib.Core.Path.{◌≡◌, subst}
 use Prim.Native.Nat.{◌+◌, ◌-◌, ◌≤◌}
 use Rattle.wire.specs.Ranges.{Between}
-use Rattle.wire.proofs.Ranges.{between_none, between_next, between_wider}
 use Rattle.wire.proofs.span.spread_of.Given as goal
 
 abbrev pub invariant-loop-j : goal.invariant-loop-j

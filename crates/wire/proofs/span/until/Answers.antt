@@ -1,10 +1,6 @@
 -- `span::until` meets its contract: what `blocks` leaves, a byte at a time. Assumes nothing.
 use native.Mathlib.Omega.{arith}
-use Prim.Native.Nat.{◌-◌}
-use lib.ListN.{length}
-use Rattle.wire.specs.Ranges.{Ranged}
 use Rattle.wire.proofs.Ranges.{ranged_next}
-use borrow.Author.Rules.{rules}
 use Rattle.wire.proofs.span.until.Goals as goal
 
 pub loop-e-preserved : goal.loop-e-preserved

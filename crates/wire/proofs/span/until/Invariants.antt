@@ -1,9 +1,6 @@
-use native.Mathlib.Omega.{arith}
 use Prim.Native.Nat.{◌-◌}
 use lib.ListN.{length}
 use Rattle.wire.specs.Ranges.{Ranged}
-use Rattle.wire.proofs.Ranges.{ranged_next}
-use borrow.Author.Rules.{rules}
 use Rattle.wire.proofs.span.until.Given as goal
 
 abbrev pub invariant-loop-e : goal.invariant-loop-e
