@@ -48,6 +48,7 @@ pub fn read(message: &[u8], table: &mut [u64]) -> Measuring
 }
 
 // A sheet of these figures to its normal form, or a numbered refusal that leaves the output as lent.
+#[tactic(auto, using(crate::proofs::SheetWritten::unit_refused))]
 pub fn write(
     order: i64,
     unit: u64,

@@ -119,7 +119,8 @@ fn count_of(why: usize, h: usize, c: &[u8]) -> Counted
         Leading::Absent => Counted::Wrong(here(why)),
         Leading::Cut(p, k) => Counted::Wrong(further(1 + h + p, wants(PAST_ENCLOSING, k))),
         Leading::Found(z, u) => {
-            if z < 0 {
+            let negative = z < 0;
+            if negative {
                 return Counted::Wrong(here(why));
             }
             Counted::Right(z as usize, u)

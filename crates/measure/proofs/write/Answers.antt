@@ -6,15 +6,12 @@ use Rattle.measure.proofs.SheetCases.{out_of_range, sheet_put}
 use Rattle.measure.proofs.SheetWritten.{unit_refused}
 use Rattle.measure.proofs.write.Goals as goal
 
-pub returns-then-unit-ge-UNITS : goal.returns-then-unit-ge-UNITS
-returns-then-unit-ge-UNITS c = sym (unit_refused _ _ _ _ _ _ (omega (arith, c.if-unit-ge-UNITS.true)))
-
 pub returns-then-not-all_fair : goal.returns-then-not-all_fair
-returns-then-not-all_fair c = out_of_range _ _ _ _ _ _ (omega (arith, c.if-unit-ge-UNITS.false)) (sym c.all_fair.ensures ∙ c.if-not-all_fair.true)
+returns-then-not-all_fair c = out_of_range _ _ _ _ _ _ (omega arith) (sym c.all_fair.ensures ∙ c.if-not-all_fair.true)
 
 pub returns : goal.returns
 returns c =
     let f = c.ranges.order.sfits in
     c.write.ensures
-    ∙ sheet_put c.args.order c.args.unit c.args.chest c.args.waist c.args.sleeve c.args.output.now (omega (arith, c.if-unit-ge-UNITS.false)) c.word_of.result
+    ∙ sheet_put c.args.order c.args.unit c.args.chest c.args.waist c.args.sleeve c.args.output.now (omega arith) c.word_of.result
     (sym c.all_fair.ensures ∙ c.if-not-all_fair.false) f (handed_word c.args.order c.args.order _ f refl c.word_of.ensures)

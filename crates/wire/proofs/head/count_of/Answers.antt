@@ -27,14 +27,14 @@ further-requires c =
 pub overflow_cast-result : goal.overflow_cast-result
 overflow_cast-result c =
     let f : SFits w64 c.in-Found.z = record { sfits = c.in-Found.known_told-in-Found-1-own.given.0.1 } in
-    cast_mag _ _ (kept c.in-Found.z f c.if-z-lt0.false) f.sfits
+    cast_mag _ _ (kept c.in-Found.z f c.if-negative.false) f.sfits
 
-pub returns-then-z-lt0 : goal.returns-then-z-lt0
-returns-then-z-lt0 c =
+pub returns-then-negative : goal.returns-then-negative
+returns-then-negative c =
     let r = subst (LeadingIs c.args.c.now) c.in-Found.is c.leading_of-l.ensures in
     let f : SFits w64 c.in-Found.z = record { sfits = c.in-Found.known_told-in-Found-1-own.given.0.1 } in
-    count_negative c.args.why c.args.h (mag c.in-Found.z) c.in-Found.u c.args.c.now c.here-then-z-lt0.result c.here-then-z-lt0.ensures
-    (r.0 ∙ ap (λ z. found z c.in-Found.u) (found_negative c.in-Found.z f c.if-z-lt0.true))
+    count_negative c.args.why c.args.h (mag c.in-Found.z) c.in-Found.u c.args.c.now c.here-then-negative.result c.here-then-negative.ensures
+    (r.0 ∙ ap (λ z. found z c.in-Found.u) (found_negative c.in-Found.z f c.if-negative.true))
 
 pub returns-in-Absent : goal.returns-in-Absent
 returns-in-Absent c =
@@ -46,9 +46,9 @@ returns-in-Cut c =
     let r = subst (LeadingIs c.args.c.now) c.in-Cut.is c.leading_of-l.ensures in
     count_cut c.args.why c.args.h c.in-Cut.p c.in-Cut.k c.args.c.now c.further.result (c.further.ensures ∙ ap (further (1 + c.args.h + c.in-Cut.p)) c.wants.ensures) r.0
 
-pub returns-else-z-lt0 : goal.returns-else-z-lt0
-returns-else-z-lt0 c =
+pub returns-else-negative : goal.returns-else-negative
+returns-else-negative c =
     let r = subst (LeadingIs c.args.c.now) c.in-Found.is c.leading_of-l.ensures in
     let f : SFits w64 c.in-Found.z = record { sfits = c.in-Found.known_told-in-Found-1-own.given.0.1 } in
-    let n = found_natural c.in-Found.z f c.if-z-lt0.false in
+    let n = found_natural c.in-Found.z f c.if-negative.false in
     count_right c.args.why c.args.h _ c.in-Found.u c.args.c.now (r.0 ∙ ap (λ z. found z c.in-Found.u) n.0) n.1 r.1
