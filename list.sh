@@ -61,13 +61,22 @@ crates() {
         }' "$top/crates.txt"
 }
 
+# A line by which rt says that it has something to do.
+proves() {
+    case $1 in
+    'rt: nothing has changed'* | 'rt: running '*) return 1 ;;
+    'rt: '*) ;;
+    *) return 1 ;;
+    esac
+}
+
 # Keeps what rt prints, and tells that proving is under way if that takes a while or if rt says that it proves.
 follow() {
     local part
     while true; do
         if IFS= read -r -t 3 part; then
             printf '%s\n' "$part" >>"$work/log"
-            case $part in 'rt: '*) tell ;; esac
+            ! proves "$part" || tell
         elif [ $? -gt 128 ]; then
             tell
         else
@@ -76,25 +85,30 @@ follow() {
     done
 }
 
-# Runs rt in a crate's folder. What rt says while it proves names the crate, with the time that it took.
+# Runs rt in a crate's folder, and where that had something to do names the crate, with the time that it took.
 prove() {
-    local crate=$1 start=$SECONDS lines
+    local crate=$1 start=$SECONDS lines line did=''
     shift
     lines=$(wc -l <"$work/log")
     (cd "$top/crates/$crate" && exec rt "$@" 2>&1 </dev/null 8<&-) | follow
     [ "${PIPESTATUS[0]}" -eq 0 ] || return 1
-    [ -z "$told" ] || ! tail -n "+$((lines + 1))" "$work/log" | grep -q '^rt: ' || printf 'list.sh: %s proved (%s s)\n' "$crate" "$((SECONDS - start))" >&2
+    while IFS= read -r line; do
+        ! proves "$line" || did=1
+    done < <(tail -n "+$((lines + 1))" "$work/log")
+    [ -z "$did" ] || printf 'list.sh: %s proved (%s s)\n' "$crate" "$((SECONDS - start))" >&2
 }
 
-# Proves and builds the program under the lock, and copies it out of the way of later builds. Whoever runs it with no input has an
-# empty listing, which is of no interest here.
+# Proves and builds the program under the lock, and copies it out of the way of later builds. Where it was built before, rt builds
+# what has changed since; the empty listing that it runs it for is of no interest here.
 build() {
     local crate
     lock
-    [ -x "$program" ] || tell
-    for crate in $(crates); do
-        prove "$crate" lib || fail
-    done
+    if [ ! -x "$program" ]; then
+        tell
+        for crate in $(crates); do
+            prove "$crate" lib || fail
+        done
+    fi
     prove sheetlist run || fail
     cp "$program" "$work/sheetlist" || fail
     exec 9<&-

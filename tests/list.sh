@@ -21,7 +21,7 @@ cat >"$work/stub/rt" <<END
 #!/bin/sh
 mkdir '$work/busy' || exit 1
 until [ -e '$work/go' ]; do sleep 0.05; done
-case \$PWD in */format) echo 'rt: format: begins with nothing' ;; esac
+echo 'rt: begins with nothing'
 case \$PWD in */sheetlist) mkdir -p out && cp '$work/program' out/sheetlist ;; esac
 rmdir '$work/busy'
 END
@@ -141,11 +141,11 @@ soon() {
     done
 }
 
-# ran FILES: one of two runs ended well and named the crate.
+# ran FILES: one of two runs ended well and named a crate.
 ran() {
     mv "$work/out.$1" "$work/out"
     mv "$work/err.$1" "$work/err"
-    [ "$ended" -eq 0 ] && cmp -s "$work/out" "$work/measure" && grep -qE '^list.sh: format proved \([0-9]+ s\)$' "$work/err"
+    [ "$ended" -eq 0 ] && cmp -s "$work/out" "$work/measure" && grep -qE '^list.sh: (format|sheetlist) proved \([0-9]+ s\)$' "$work/err"
 }
 
 # A first run says at once that it proves, and names the crate; two at once wait for each other.
@@ -176,7 +176,7 @@ mkfifo "$work/pipe"
 exec 5<>"$work/pipe"
 bash "$copy/list.sh" - <"$work/pipe" >"$work/out.1" 2>"$work/err.1" 5>&- &
 first=$!
-soon grep -qsE '^list.sh: format proved \([0-9]+ s\)$' "$work/err.1"
+soon grep -qsE '^list.sh: sheetlist proved \([0-9]+ s\)$' "$work/err.1"
 sleep 0.5
 timeout 10 bash "$copy/list.sh" "$work/-" >"$work/out.2" 2>"$work/err.2" 5>&-
 ended=$?
