@@ -1,5 +1,5 @@
 #!/usr/bin/env bash
-# Runs every proof and every test from nothing, or the parts that are named. 'bash test.sh -h' lists the parts. Prints how long
+# Runs every proof and every test, or the parts that are named. 'bash test.sh -h' lists the parts. Prints how long
 # each part took and names those that failed; the last line is 'N passed, M failed', and the exit status is 0 only when something
 # passed and nothing failed.
 set -u
@@ -43,7 +43,7 @@ proofs() {
 
 # The parts, in their order: a name, whether it counts tests or is one check, what it is, and the command.
 parts() {
-    part proofs counts 'every proof and every must-fail edit, from nothing (rt ci)' proofs
+    part proofs counts 'every proof and every must-fail edit (rt ci)' proofs
     part second-layout once 'second program: layout' in_folder second cargo fmt --check
     part second-lints once 'second program: lints' in_folder second cargo clippy --quiet --all-targets --offline --locked -- -D warnings
     part second-tests counts 'second program: tests' in_folder second cargo test --release --offline --locked

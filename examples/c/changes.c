@@ -1,7 +1,7 @@
 /*
  * Prints what changed from one message to another: one line for each difference,
- * with the rows and what stands in them. From the repository's root, once `rt
- * staticlib msdtp` has made the archive:
+ * with the rows and what stands in them. From the repository's root, once `bash
+ * archive.sh` has made the archive:
  *
  *   gcc -std=c99 -Wall -Wextra -pedantic -Iinclude examples/c/changes.c target/staticlib/libmsdtp.a -o target/changes
  *   target/changes examples/note.msg examples/second-fitting.msg

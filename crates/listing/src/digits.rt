@@ -45,6 +45,7 @@ pub fn put_decimal(out: &mut [u8], at: usize, n: u64) -> usize
 }
 
 // A number from -2^63 to 2^63 - 1, given modulo 2^64.
+#[tactic(auto, using(crate::proofs::Decimals::signed_plus))]
 pub fn put_signed(out: &mut [u8], at: usize, v: u64) -> usize
     requires { at + length (signed_decimal (signed 8 v)) ≤ length out.old }
     ensures { Wrote at (signed_decimal (signed 8 v)) out.old result out.new }

@@ -15,6 +15,8 @@ use Rattle.scan.specs.declared.Scanned.TheVariants.{Refused, Accepted}
 use Rattle.scan.specs.Sums.{sum_of}
 use Rattle.scan.specs.Answer.{answer}
 use Rattle.fill.specs.Whole.{Roomy, laid_out}
+use Rattle.scan.specs.declared.Scanned.{Scanned}
+use Rattle.message.specs.declared.Reading.{Reading}
 use Rattle.message.specs.Told.{read_answer, fault_answer, read_told}
 
 pub read_long : (m t : List ℕ) → 65536 < length m → read_told (read_answer 1 0) t ≡ A.reading m t
@@ -46,6 +48,15 @@ read_words (says xs) t s e hr h =
     let r : s.rows ≡ min (rows xs) 524288 = ap (λ (x : Summary). x.rows) q in
     let w : s.words ≡ min (length (data_words xs)) 65536 = ap (λ (x : Summary). x.words) q in
     sym (if_lt_no row_limit (rows xs) _ _ (omega arith) ∙ if_lt_yes word_limit (length (data_words xs)) _ _ (omega arith))
+
+-- a message with too many rows, or with too many data words, as the code tells it
+pub rows_told : (m t : List ℕ) (r : Reading) (x : Scanned) (s : Summary) → x ≡ Accepted s → x ≡ answer (outcome m) → r ≡ read_answer 10 0
+    → length m ≤ 65536 → 16384 < s.rows → read_told r t ≡ A.reading m t
+rows_told m t r x s is e a l h = ap (λ r. read_told r t) a ∙ read_rows (outcome m) t s (sym is ∙ e) h ∙ read_short m t l
+
+pub words_told : (m t : List ℕ) (r : Reading) (x : Scanned) (s : Summary) → x ≡ Accepted s → x ≡ answer (outcome m) → r ≡ read_answer 10 0
+    → length m ≤ 65536 → s.rows ≤ 16384 → 16384 < s.words → read_told r t ≡ A.reading m t
+words_told m t r x s is e a l hr h = ap (λ r. read_told r t) a ∙ read_words (outcome m) t s (sym is ∙ e) hr h ∙ read_short m t l
 
 pub read_room : (o : Outcome) (t : List ℕ) (s : Summary) → Accepted s ≡ answer o → s.rows ≤ 16384 → s.words ≤ 16384
     → length t < 4 + 3 * s.rows + s.words → read_told (read_answer 11 (4 + 3 * s.rows + s.words)) t ≡ A.reading_of o t

@@ -65,6 +65,7 @@ fn answered(number: usize, words: usize) -> Reading
 }
 
 // Any bytes to a table of items, or a numbered refusal that leaves the table as lent.
+#[tactic(auto, using(crate::proofs::ReadCases::rows_told, crate::proofs::ReadCases::words_told))]
 pub fn read(message: &[u8], table: &mut [u64]) -> Reading
     ensures { read_told result table.new ≡ reading message.now table.old }
 {
@@ -104,6 +105,7 @@ pub fn write(table: &[u64], output: &mut [u8]) -> Writing
 }
 
 // Any bytes to the normal form of what they say: reads, then writes what was read.
+#[tactic(auto, using(crate::proofs::WriteCases::normalise_refused))]
 pub fn normalise(message: &[u8], table: &mut [u64], output: &mut [u8]) -> Normalising
     ensures { normalise_told result table.new output.new ≡ normalising message.now table.old output.old }
 {

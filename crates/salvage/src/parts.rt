@@ -60,6 +60,7 @@ fn sized_bytes(s: &[u8]) -> usize
 
 // The bytes of an object whose type-byte is reserved or unassigned: C7 to DF have a size like every non-atomic object, the others no
 // known extent.
+#[tactic(auto, using(crate::proofs::ExtentLaws::reserved_low))]
 fn reserved_bytes(b: u8, s: &[u8]) -> usize
     requires { (length s.now ≤ byte_limit) × (class_of b ≡ Reserved) }
     ensures { result ≡ bytes_told (lying s.now (own_extent b s.now)) }

@@ -138,6 +138,11 @@ mix_times : (k : ℕ) (xs : Items) → mix_of (kinds (times (suc k) xs)) ≡ mix
 mix_times zero xs = ap (λ z. mix_of (kinds z)) (times_one xs)
 mix_times (suc k) xs = ap mix_of (kinds_suc (suc k) xs) ∙ mix_again (kinds xs) (kinds (times (suc k) xs)) (mix_times k xs)
 
+-- of a pattern that stands once the second element is its own
+pub second_once : (k : ℕ) (a : Summary) → k ≡ 1 → a.second ≡ second_power k a
+unfolding second_power
+second_once k a e = sym (if_eq_yes k 1 _ _ e)
+
 second_power_lem : (k : ℕ) (xs : Items) → lead (behind (times (suc k) xs)) ≡ second_power (suc k) (sum_of xs)
 unfolding second_power sum_of
 second_power_lem zero xs = ap (λ z. lead (behind z)) (times_one xs)

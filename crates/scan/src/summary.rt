@@ -144,6 +144,7 @@ pub fn plus(a: Summary, b: Summary) -> Summary
 }
 
 // The second lead of a run that stands k times, k not 0: two of them settle it.
+#[tactic(auto, using(crate::proofs::SumLaws::second_once))]
 fn second_power(k: usize, a: Summary) -> u64
     ensures { result ≡ second_power k a }
 {

@@ -84,7 +84,8 @@ pub fn write(table: &[u64], output: &mut [u8]) -> Written
     match found {
         Verdict::Refused(number) => Written { number, length: 0 },
         Verdict::Normal(length) => {
-            if output.len() < length {
+            let short = output.len() < length;
+            if short {
                 return Written {
                     number: OUTPUT_SHORT,
                     length,

