@@ -33,14 +33,14 @@ returns-then-used-words c = misplaced _ _ _ (header (goal.at.returns-then-used-w
 
 pub returns-then-n-gt-MOST_BYTES : goal.returns-then-n-gt-MOST_BYTES
 returns-then-n-gt-MOST_BYTES c =
-    verdict_long _ _ _ (header ((goal.at.returns-then-n-gt-MOST_BYTES c).Else-not-header_ok)) _ _ _ (surveyed ((goal.at.returns-then-n-gt-MOST_BYTES c).In-Whole)) c.if-count-table.false c.if-used-words.false c.if-n-gt-MOST_BYTES.true
+    verdict_long _ _ _ (header (goal.at.returns-then-n-gt-MOST_BYTES c).Else-not-header_ok) _ _ _ (surveyed (goal.at.returns-then-n-gt-MOST_BYTES c).In-Whole) c.if-count-table.false c.if-used-words.false c.if-n-gt-MOST_BYTES.true
 
 pub returns-in-Wrong : goal.returns-in-Wrong
 returns-in-Wrong c = no_items _ _ _ (header (goal.at.returns-in-Wrong c).Else-not-header_ok) (rw c.in-Wrong.is at c.survey_run-found.ensures)
 
 pub returns-else-n-gt-MOST_BYTES : goal.returns-else-n-gt-MOST_BYTES
 returns-else-n-gt-MOST_BYTES c =
-    verdict_normal _ _ _ (header ((goal.at.returns-else-n-gt-MOST_BYTES c).Else-not-header_ok)) _ _ _ (surveyed ((goal.at.returns-else-n-gt-MOST_BYTES c).In-Whole)) c.if-count-table.false c.if-used-words.false c.if-n-gt-MOST_BYTES.false
+    verdict_normal _ _ _ (header (goal.at.returns-else-n-gt-MOST_BYTES c).Else-not-header_ok) _ _ _ (surveyed (goal.at.returns-else-n-gt-MOST_BYTES c).In-Whole) c.if-count-table.false c.if-used-words.false c.if-n-gt-MOST_BYTES.false
 
 pub bounds-table-0 : goal.bounds-table-0
 bounds-table-0 c = omega (arith, (header (goal.at.bounds-table-0 c).Else-not-header_ok).within)

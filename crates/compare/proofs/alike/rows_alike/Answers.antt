@@ -9,17 +9,17 @@ use Rattle.compare.proofs.alike.rows_alike.Goals as goal
 use Rattle.compare.proofs.alike.rows_alike.Goals.{Then-kind-eq-BITS, Then-kind-eq-STRING}
 
 -- two BITS
-bits-kept : (c : Then-kind-eq-BITS) →
+bits_kept : (c : Then-kind-eq-BITS) →
     let a = a_at c.args.left.now c.args.p in
     BothKept c.args.left.now c.args.right.now c.args.p c.args.q a ((a + 63) / 64)
-bits-kept c =
+bits_kept c =
     here_bits c.args.left.now c.args.right.now c.args.p c.args.q c.requires c.if-kind-eq-BITS.true c.if-kind-right.false c.if-a-right.false
 
 -- two strings
-text-kept : (c : Then-kind-eq-STRING) →
+text_kept : (c : Then-kind-eq-STRING) →
     let a = a_at c.args.left.now c.args.p in
     BothKept c.args.left.now c.args.right.now c.args.p c.args.q a ((a + 7) / 8)
-text-kept c =
+text_kept c =
     here_text c.args.left.now c.args.right.now c.args.p c.args.q c.requires c.if-kind-eq-STRING.true c.if-kind-right.false c.if-a-right.false
 
 pub returns-then-kind-right : goal.returns-then-kind-right
@@ -51,16 +51,16 @@ pub bounds-right-q-2 : goal.bounds-right-q-2
 bounds-right-q-2 c = let r = (here_rows _ _ _ _ c.requires).right in omega (arith, r.start, r.within)
 
 pub overflow_add-a-then-kind-eq-BITS : goal.overflow_add-a-then-kind-eq-BITS
-overflow_add-a-then-kind-eq-BITS c = omega (arith, (bits-kept (goal.at.overflow_add-a-then-kind-eq-BITS c).Then-kind-eq-BITS).few)
+overflow_add-a-then-kind-eq-BITS c = omega (arith, (bits_kept (goal.at.overflow_add-a-then-kind-eq-BITS c).Then-kind-eq-BITS).few)
 
 pub same_data-requires : goal.same_data-requires
-same_data-requires c = record { left_data = (bits-kept (goal.at.same_data-requires c).Then-kind-eq-BITS).left; right_data = (bits-kept (goal.at.same_data-requires c).Then-kind-eq-BITS).right }
+same_data-requires c = record { left_data = (bits_kept (goal.at.same_data-requires c).Then-kind-eq-BITS).left; right_data = (bits_kept (goal.at.same_data-requires c).Then-kind-eq-BITS).right }
 
 pub bounds-right-q-then-kind-lt-STRUC : goal.bounds-right-q-then-kind-lt-STRUC
 bounds-right-q-then-kind-lt-STRUC c = let r = (here_rows _ _ _ _ c.requires).right in omega (arith, r.start, r.within)
 
 pub overflow_add-a-then-kind-eq-STRING : goal.overflow_add-a-then-kind-eq-STRING
-overflow_add-a-then-kind-eq-STRING c = omega (arith, (text-kept (goal.at.overflow_add-a-then-kind-eq-STRING c).Then-kind-eq-STRING).few)
+overflow_add-a-then-kind-eq-STRING c = omega (arith, (text_kept (goal.at.overflow_add-a-then-kind-eq-STRING c).Then-kind-eq-STRING).few)
 
 pub same_data-requires-then-kind-eq-STRING : goal.same_data-requires-then-kind-eq-STRING
-same_data-requires-then-kind-eq-STRING c = record { left_data = (text-kept (goal.at.same_data-requires-then-kind-eq-STRING c).Then-kind-eq-STRING).left; right_data = (text-kept (goal.at.same_data-requires-then-kind-eq-STRING c).Then-kind-eq-STRING).right }
+same_data-requires-then-kind-eq-STRING c = record { left_data = (text_kept (goal.at.same_data-requires-then-kind-eq-STRING c).Then-kind-eq-STRING).left; right_data = (text_kept (goal.at.same_data-requires-then-kind-eq-STRING c).Then-kind-eq-STRING).right }

@@ -11,8 +11,8 @@ use Rattle.compare.proofs.walk.apart_from.Goals.{In-loop-i}
 here : (c : In-loop-i) → Here c.args.left.now c.args.right.now c.loop-i.i c.loop-i.j
 here c = pass_here _ _ _ _ _ _ c.loop-i.invariant.1 c.requires (omega arith)
 
-rows-there : (c : In-loop-i) → InRows c.args.left.now c.args.right.now c.loop-i.i c.loop-i.j
-rows-there c = here_rows _ _ _ _ (here c)
+rows_there : (c : In-loop-i) → InRows c.args.left.now c.args.right.now c.loop-i.i c.loop-i.j
+rows_there c = here_rows _ _ _ _ (here c)
 
 pub loop-i-preserved : goal.loop-i-preserved
 loop-i-preserved c =
@@ -34,7 +34,7 @@ pub rows_alike-requires : goal.rows_alike-requires
 rows_alike-requires c = here (goal.at.rows_alike-requires c).In-loop-i
 
 pub overflow_add-i : goal.overflow_add-i
-overflow_add-i c = omega (arith, (rows-there (goal.at.overflow_add-i c).In-loop-i).left.start, (rows-there (goal.at.overflow_add-i c).In-loop-i).left.few)
+overflow_add-i c = omega (arith, (rows_there (goal.at.overflow_add-i c).In-loop-i).left.start, (rows_there (goal.at.overflow_add-i c).In-loop-i).left.few)
 
 pub overflow_add-j : goal.overflow_add-j
-overflow_add-j c = omega (arith, (rows-there (goal.at.overflow_add-j c).In-loop-i).right.start, (rows-there (goal.at.overflow_add-j c).In-loop-i).right.few)
+overflow_add-j c = omega (arith, (rows_there (goal.at.overflow_add-j c).In-loop-i).right.start, (rows_there (goal.at.overflow_add-j c).In-loop-i).right.few)

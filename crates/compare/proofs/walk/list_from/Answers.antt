@@ -8,8 +8,8 @@ use Rattle.compare.proofs.walk.list_from.Goals as goal
 use Rattle.compare.proofs.walk.list_from.Goals.{After-slice_known-2-1, In-loop-n}
 
 -- there is room for the first
-first-room : (c : After-slice_known-2-1) → 2 ≤ length c.args.list.now
-first-room c = omega (arith, c.requires.count_value.0, c.requires.count_value.1, first_some _ _ _ _ c.requires.first.0 c.requires.first.1)
+first_room : (c : After-slice_known-2-1) → 2 ≤ length c.args.list.now
+first_room c = omega (arith, c.requires.count_value.0, c.requires.count_value.1, first_some _ _ _ _ c.requires.first.0 c.requires.first.1)
 
 -- in the loop, the list is as long as it was lent
 as_long : (c : In-loop-n) → length c.loop-n.list ≡ length c.args.list.now
@@ -26,7 +26,7 @@ loop-n-preserved c =
 
 pub shape_of-list : goal.shape_of-list
 shape_of-list c =
-    list_length _ _ _ _ _ _ _ c.loop-n.invariant.1 _ _ _ c.put_entry.ensures (first-room (goal.at.shape_of-list c).After-slice_known-2-1) (omega (arith, c.requires.count_value.1, c.loop-n.invariant.0))
+    list_length _ _ _ _ _ _ _ c.loop-n.invariant.1 _ _ _ c.put_entry.ensures (first_room (goal.at.shape_of-list c).After-slice_known-2-1) (omega (arith, c.requires.count_value.1, c.loop-n.invariant.0))
 
 pub returns : goal.returns
 returns c =

@@ -5,7 +5,6 @@ use Rattle.explain.proofs.elements.+places_in.Given as goal
 abbrev pub decreases-places_in : goal.decreases-places_in
 decreases-places_in l = l.end - l.from
 
--- ==== the loop: what holds at its head, and what falls
 abbrev pub invariant-loop-i : goal.invariant-loop-i
 invariant-loop-i l = Walked l.m l.depth l.asked l.from l.end l.i l.sum
 

@@ -2,7 +2,6 @@ use Rattle.std.proofs.Common.{◌-◌, length}
 use Rattle.fill.proofs.StringLaws.{Chars}
 use Rattle.fill.proofs.text.+only_chars.Given as goal
 
--- ==== the loop: what holds at its head, and what falls
 abbrev pub invariant-loop-i : goal.invariant-loop-i
 invariant-loop-i l = Chars l.depth l.s l.i
 

@@ -2,7 +2,6 @@ use Rattle.std.proofs.Common.{◌-◌, length}
 use Rattle.fill.proofs.Spelling.{Spelling}
 use Rattle.fill.proofs.text.+put_chars.Given as goal
 
--- ==== the loop: what holds at its head, and what falls
 abbrev pub invariant-loop-i : goal.invariant-loop-i
 invariant-loop-i l = Spelling l.depth l.s l.n l.initial.table l.table l.i l.to
 

@@ -15,7 +15,7 @@ use Rattle.fill.proofs.ShortWalk.{ShortTurn, short_turn}
 use Rattle.fill.proofs.walk.+fill_object_fill_run_fill_short.Goals as goal
 use Rattle.fill.proofs.walk.+fill_object_fill_run_fill_short.Goals.{fill_object-After-own_words-own, fill_object-In-Open, fill_object-In-Text, fill_run-Joined-is_non_atomic, fill_run-Then-n-gt0, fill_short-Else-words-gt0, fill_run-then-is_non_atomic+else-n-gt0, fill_run-else-is_non_atomic+else-l-i}
 
--- ==== the answers of fill_object
+-- ---- fill_object
 -- the container that the head tells of, and the STRING
 opened_at : (t : ℕ) (c : fill_object-In-Open t) → Opened false c.args.depth c.args.s.now c.in-Open.w c.in-Open.a c.in-Open.n c.requires.1.items c.requires.1.past
 opened_at t c =
@@ -146,7 +146,7 @@ fill_object-returns-in_default t c =
     let n = c.in_default in
     plain_filled c.requires.1 _ n.not-Text n.not-Open c.head_of-h.ensures c.put_data.ensures q.0 q.1
 
--- ==== the answers of fill_run
+-- ---- fill_run
 -- a container or a string whose size is one byte
 short_at : (t : ℕ) (c : fill_run-Then-n-gt0 t)
     → ShortTurn c.args.depth c.args.s.now c.args.base c.args.gap c.args.table.now c.loop-i.table c.loop-i.i c.loop-i.rows c.loop-i.count c.loop-i.words
@@ -227,7 +227,7 @@ fill_run-loop-i-preserved t c =
 pub fill_run-returns : goal.fill_run-returns
 fill_run-returns t c = walk_end c.loop-i.invariant (omega arith)
 
--- ==== the answers of fill_short
+-- ---- fill_short
 -- a container that is no string, by its elements
 short_elements_at : (t : ℕ) (c : fill_short-Else-words-gt0 t)
     → let T = c.short_string-words.new.table in

@@ -2,7 +2,6 @@ use Rattle.std.proofs.Common.{◌+◌, ◌-◌, ◌*◌, length}
 use Rattle.fill.proofs.WalkLaws.{WalkInv}
 use Rattle.fill.proofs.walk.+fill_object_fill_run_fill_short.Given as goal
 
--- ==== the loop: what holds at its head, and what falls
 abbrev pub invariant-fill_run-loop-i : goal.invariant-fill_run-loop-i
 invariant-fill_run-loop-i l = WalkInv l.depth l.s l.base l.gap l.initial.table l.table l.i l.rows l.count l.words
 

@@ -11,7 +11,6 @@ use Rattle.listing.proofs.Putting.{part_start, part_step, part_end, part_room}
 use Rattle.listing.proofs.RunLines.{row_at, row_first, leaf_lines, group_lines, text_lines, no_lines}
 use Rattle.listing.proofs.walk.+put_run.Goals as goal
 
--- ==== the arguments
 pub loop-p-init : goal.loop-p-init
 loop-p-init t c =
     let r = c.requires.run.0 in

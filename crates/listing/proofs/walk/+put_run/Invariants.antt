@@ -8,7 +8,6 @@ use Rattle.listing.proofs.walk.+put_run.Given as goal
 abbrev pub decreases-put_run : goal.decreases-put_run
 decreases-put_run l = 16 - l.level
 
--- ==== the loop: what holds at its head, and what falls
 abbrev pub invariant-loop-p : goal.invariant-loop-p
 invariant-loop-p l =
     (l.p ≤ l.to) × Run l.table l.p l.to × (l.level + depth (items_at l.table l.p l.to) ≤ 16)

@@ -10,10 +10,10 @@ none_came : (d r : ℕ) → r ≡ 0 → step.Ends (input.Whole d) ≡ came d r
 unfolding came
 none_came d r e = ap (came d) (sym e)
 
-some-came : (d r : ℕ) → (r ≡ 0 → ⊥) → step.More (d + r) ≡ came d r
+some_came : (d r : ℕ) → (r ≡ 0 → ⊥) → step.More (d + r) ≡ came d r
 unfolding came
-some-came d zero e = absurd (e refl)
-some-came d (suc k) e = refl
+some_came d zero e = absurd (e refl)
+some_came d (suc k) e = refl
 
 pub returns-in_default : goal.returns-in_default
 unfolding stepped
@@ -26,4 +26,4 @@ returns-then-more-eq0 c =
 
 pub returns : goal.returns
 unfolding stepped
-returns c = rw c.in-Ok.is (some-came c.args.done c.min-more.result c.if-more-eq0.false ∙ ap (came c.args.done) c.min-more.ensures)
+returns c = rw c.in-Ok.is (some_came c.args.done c.min-more.result c.if-more-eq0.false ∙ ap (came c.args.done) c.min-more.ensures)

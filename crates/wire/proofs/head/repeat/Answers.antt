@@ -15,8 +15,8 @@ use Rattle.wire.proofs.head.repeat.Goals.{In-Inside, In-Right}
 fits : (c : In-Inside) → c.in-Inside.h + c.in-Inside.size ≤ length c.args.s.now
 fits c = (contained_inside _ _ _ c.contents_of-c.ensures _ _ c.in-Inside.is).1
 
-count-in : (c : In-Right) → c.in-Right.u ≤ c.in-Inside.size
-count-in c = (count_fits _ _ _ _ _ c.count_of-k.ensures _ _ c.in-Right.is).0
+count_in : (c : In-Right) → c.in-Right.u ≤ c.in-Inside.size
+count_in c = (count_fits _ _ _ _ _ c.count_of-k.ensures _ _ c.in-Right.is).0
 
 pub returns-then-depth-eq0 : goal.returns-then-depth-eq0
 returns-then-depth-eq0 c =
@@ -48,4 +48,4 @@ pub slice_bounds-count_of-end : goal.slice_bounds-count_of-end
 slice_bounds-count_of-end c = omega (arith, fits (goal.at.slice_bounds-count_of-end c).In-Inside)
 
 pub overflow_add-result : goal.overflow_add-result
-overflow_add-result c = omega (arith, fits (goal.at.overflow_add-result c).In-Inside, count-in (goal.at.overflow_add-result c).In-Right)
+overflow_add-result c = omega (arith, fits (goal.at.overflow_add-result c).In-Inside, count_in (goal.at.overflow_add-result c).In-Right)

@@ -52,7 +52,7 @@ returns-then-rest-gt0 c =
     laying_last _ _ _ _ c.requires c.loop-i.out _ (rw e at c.loop-i.invariant.1) _ c.put_low.new.out (omega arith) (omega arith) (omega arith) c.put_low.ensures
 
 pub returns-else-rest-gt0 : goal.returns-else-rest-gt0
-returns-else-rest-gt0 c = laying_ends _ _ _ _ (c.requires) c.loop-i.out c.loop-i.i c.loop-i.invariant.1 (omega arith)
+returns-else-rest-gt0 c = laying_ends _ _ _ _ c.requires c.loop-i.out c.loop-i.i c.loop-i.invariant.1 (omega arith)
 
 pub shape_of-out-else-rest-gt0 : goal.shape_of-out-else-rest-gt0
 shape_of-out-else-rest-gt0 c = c.loop-i.invariant.1.same

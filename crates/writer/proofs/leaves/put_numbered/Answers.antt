@@ -29,7 +29,7 @@ slice_bounds-put_bytes-start c = omega (arith, room (goal.at.slice_bounds-put_by
 
 pub put_bytes-requires : goal.put_bytes-requires
 put_bytes-requires c =
-    ((row ((goal.at.put_bytes-requires c).Start)).kept, omega (arith, room ((goal.at.put_bytes-requires c).Start), c.put_int.auto.out, c.int_length-used.ensures, part_length c.int_length-used.result c.put_int.new.out))
+    ((row (goal.at.put_bytes-requires c).Start).kept, omega (arith, room ((goal.at.put_bytes-requires c).Start), c.put_int.auto.out, c.int_length-used.ensures, part_length c.int_length-used.result c.put_int.new.out))
 
 pub returns : goal.returns
 returns c =

@@ -12,10 +12,10 @@ use Rattle.format.proofs.Over.{set_four, set_next}
 use Rattle.writer.proofs.numbers.put_word.Goals as goal
 
 -- eight bytes from the front
-set-eight : (t : List ℕ) (a b c d e f g i : ℕ) → 8 ≤ length t →
+set_eight : (t : List ℕ) (a b c d e f g i : ℕ) → 8 ≤ length t →
     set (set (set (set (set (set (set (set t 0 a) 1 b) 2 c) 3 d) 4 e) 5 f) 6 g) 7 i ≡ over (a ∷ b ∷ c ∷ d ∷ e ∷ f ∷ g ∷ i ∷ []) t
 unfolding over_at
-set-eight t a b c d e f g i h =
+set_eight t a b c d e f g i h =
     let s4 = set (set (set (set t 0 a) 1 b) 2 c) 3 d in
     let s5 = set_next 0 e (a ∷ b ∷ c ∷ d ∷ []) t s4 (set_four 0 t a b c d (omega arith)) (omega arith) in
     let s6 = set_next 0 f (a ∷ b ∷ c ∷ d ∷ e ∷ []) t (set s4 4 e) s5 (omega arith) in
@@ -24,7 +24,7 @@ set-eight t a b c d e f g i h =
 
 pub returns : goal.returns
 returns c =
-    set-eight c.args.out.now _ _ _ _ _ _ _ _ c.requires ∙ ap (λ l. over l c.args.out.now) (sym (word_eight c.args.n (omega arith)))
+    set_eight c.args.out.now _ _ _ _ _ _ _ _ c.requires ∙ ap (λ l. over l c.args.out.now) (sym (word_eight c.args.n (omega arith)))
 
 pub overflow_cast-out : goal.overflow_cast-out
 overflow_cast-out c = let h = P.shr_lt {n = c.args.n} 8 56 (omega arith) in omega arith

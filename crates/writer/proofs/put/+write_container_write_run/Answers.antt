@@ -14,15 +14,15 @@ use Rattle.writer.proofs.put.+write_container_write_run.Goals as goal
 use Rattle.writer.proofs.put.+write_container_write_run.Goals.{write_container-After-size_length-least, write_container-After-size_length-used, write_container-After-write_run-size, write_run-Else-kind-eq-STRING, write_run-Then-kind-eq-STRING, write_run-Then-kind-lt-STRUC}
 
 -- the contents have room behind a type-byte and the fewest size bytes
-start-in : (t : ℕ) (c : write_container-After-size_length-least t)
+start_in : (t : ℕ) (c : write_container-After-size_length-least t)
     → 1 + c.size_length-least.result ≤ length c.args.out.now
-start-in t c = contents_start _ _ _ _ _ _ c.requires c.size_length-least.ensures
+start_in t c = contents_start _ _ _ _ _ _ c.requires c.size_length-least.ensures
 
 -- the output as it comes back with them
-came-back : (t : ℕ) (c : write_container-After-write_run-size t)
+came_back : (t : ℕ) (c : write_container-After-write_run-size t)
     → length (take (1 + c.size_length-least.result) c.args.out.now ++ (c.write_run-size.new.out
     ++ drop (length c.args.out.now - (1 + c.size_length-least.result)) (drop (1 + c.size_length-least.result) c.args.out.now))) ≡ length c.args.out.now
-came-back t c =
+came_back t c =
     back_length (1 + c.size_length-least.result) c.args.out.now c.write_run-size.new.out ((contents_start _ _ _ _ _ _ c.requires c.size_length-least.ensures)) c.write_run-size.auto.out
 
 -- the bytes that their size takes
@@ -36,21 +36,21 @@ written_in : (t : ℕ) (c : write_container-After-size_length-used t)
 written_in t c = (head_room _ _ _ _ _ _ c.requires c.size_length-least.ensures _ _ c.write_run-size.ensures.value c.size_length-used.ensures).room
 
 -- the next item is a leaf
-leaf-here : (t : ℕ) (c : write_run-Then-kind-lt-STRUC t)
+leaf_here : (t : ℕ) (c : write_run-Then-kind-lt-STRUC t)
     → LeafTurn c.args.table.now c.loop-p.p c.args.to c.loop-p.n c.loop-p.out
-leaf-here t c = leaf_turn c.loop-p.invariant c.loop-p-test.true c.if-kind-lt-STRUC.true
+leaf_here t c = leaf_turn c.loop-p.invariant c.loop-p-test.true c.if-kind-lt-STRUC.true
 
 -- it is a string
-text-here : (t : ℕ) (c : write_run-Then-kind-eq-STRING t)
+text_here : (t : ℕ) (c : write_run-Then-kind-eq-STRING t)
     → TextTurn c.args.table.now c.loop-p.p c.args.to c.loop-p.n c.loop-p.out
-text-here t c = text_turn c.loop-p.invariant c.loop-p-test.true c.if-kind-eq-STRING.true
+text_here t c = text_turn c.loop-p.invariant c.loop-p-test.true c.if-kind-eq-STRING.true
 
 -- it is another container
-group-here : (t : ℕ) (c : write_run-Else-kind-eq-STRING t)
+group_here : (t : ℕ) (c : write_run-Else-kind-eq-STRING t)
     → GroupTurn c.args.table.now c.loop-p.p c.args.to c.args.depth c.loop-p.n c.loop-p.out
-group-here t c = group_turn c.loop-p.invariant c.loop-p-test.true c.if-kind-lt-STRUC.false c.if-kind-eq-STRING.false
+group_here t c = group_turn c.loop-p.invariant c.loop-p-test.true c.if-kind-lt-STRUC.false c.if-kind-eq-STRING.false
 
--- ==== the arguments of write_container
+-- ---- write_container
 pub write_container-head_byte-byte-requires : goal.write_container-head_byte-byte-requires
 write_container-head_byte-byte-requires t c = tt
 
@@ -65,12 +65,12 @@ write_container-overflow_sub-used t c = (sized t (goal.at.write_container-overfl
 pub write_container-shift-requires : goal.write_container-shift-requires
 write_container-shift-requires t c =
     let r = sized t (goal.at.write_container-shift-requires t c).After-write_run-size _ c.size_length-used.ensures in
-    omega (arith, r.least, r.room, came-back t (goal.at.write_container-shift-requires t c).After-write_run-size)
+    omega (arith, r.least, r.room, came_back t (goal.at.write_container-shift-requires t c).After-write_run-size)
 
 pub write_container-put_head-requires : goal.write_container-put_head-requires
 write_container-put_head-requires t c =
     let r = sized t (goal.at.write_container-put_head-requires t c).After-write_run-size _ refl in
-    omega (arith, r.room, came-back t (goal.at.write_container-put_head-requires t c).After-write_run-size, c.shift.auto.out)
+    omega (arith, r.room, came_back t (goal.at.write_container-put_head-requires t c).After-write_run-size, c.shift.auto.out)
 
 pub write_container-overflow_add-result : goal.write_container-overflow_add-result
 write_container-overflow_add-result t c = omega (arith, written_in t (goal.at.write_container-overflow_add-result t c).After-size_length-used)
@@ -80,13 +80,13 @@ write_container-overflow_add-result-2 t c = omega (arith, written_in t (goal.at.
 
 pub write_container-shape_of-out : goal.write_container-shape_of-out
 write_container-shape_of-out t c =
-    c.put_head.auto.out ∙ c.shift.auto.out ∙ came-back t ((goal.at.write_container-shape_of-out t c).After-write_run-size)
+    c.put_head.auto.out ∙ c.shift.auto.out ∙ came_back t (goal.at.write_container-shape_of-out t c).After-write_run-size
 
 pub write_container-returns : goal.write_container-returns
 write_container-returns t c = let r = (container_done _ _ _ _ c.args.out.now _ c.requires c.size_length-least.ensures _ _ _ _ c.write_run-size.new.out _ _
     c.write_run-size.ensures.value c.size_length-used.ensures c.head_byte-byte.ensures c.write_run-size.ensures.out_after c.shift.ensures c.put_head.ensures) in record { value = r.0; out_after = r.1 }
 
--- ==== the arguments of write_run
+-- ---- write_run
 pub write_run-loop-p-init : goal.write_run-loop-p-init
 write_run-loop-p-init t c = going_starts _ _ _ _ _ c.requires
 
@@ -129,39 +129,39 @@ write_run-loop-p-preserved-then-table-p-lt64 t c =
 
 pub write_run-put_leaf-bytes-requires : goal.write_run-put_leaf-bytes-requires
 write_run-put_leaf-bytes-requires t c =
-    let r = leaf-here t (goal.at.write_run-put_leaf-bytes-requires t c).Then-kind-lt-STRUC in
+    let r = leaf_here t (goal.at.write_run-put_leaf-bytes-requires t c).Then-kind-lt-STRUC in
     (r.step.here, omega (arith, r.room, part_length c.loop-p.n c.loop-p.out))
 
 pub write_run-overflow_add-n-then-kind-lt-STRUC : goal.write_run-overflow_add-n-then-kind-lt-STRUC
-write_run-overflow_add-n-then-kind-lt-STRUC t c = let r = (leaf-here t (goal.at.write_run-overflow_add-n-then-kind-lt-STRUC t c).Then-kind-lt-STRUC).room in omega (arith, c.put_leaf-bytes.ensures.value)
+write_run-overflow_add-n-then-kind-lt-STRUC t c = let r = (leaf_here t (goal.at.write_run-overflow_add-n-then-kind-lt-STRUC t c).Then-kind-lt-STRUC).room in omega (arith, c.put_leaf-bytes.ensures.value)
 
 pub write_run-loop-p-preserved-then-kind-lt-STRUC : goal.write_run-loop-p-preserved-then-kind-lt-STRUC
 write_run-loop-p-preserved-then-kind-lt-STRUC t c =
-    going_leaf c.loop-p.invariant (leaf-here t ((goal.at.write_run-loop-p-preserved-then-kind-lt-STRUC t c).Then-kind-lt-STRUC)) c.loop-p-test.true c.put_leaf-bytes.result c.put_leaf-bytes.new.out c.put_leaf-bytes.ensures.value c.put_leaf-bytes.auto.out c.put_leaf-bytes.ensures.out_after
+    going_leaf c.loop-p.invariant (leaf_here t (goal.at.write_run-loop-p-preserved-then-kind-lt-STRUC t c).Then-kind-lt-STRUC) c.loop-p-test.true c.put_leaf-bytes.result c.put_leaf-bytes.new.out c.put_leaf-bytes.ensures.value c.put_leaf-bytes.auto.out c.put_leaf-bytes.ensures.out_after
 
 pub write_run-write_string-bytes-requires : goal.write_run-write_string-bytes-requires
 write_run-write_string-bytes-requires t c =
-    let r = text-here t (goal.at.write_run-write_string-bytes-requires t c).Then-kind-eq-STRING in
+    let r = text_here t (goal.at.write_run-write_string-bytes-requires t c).Then-kind-eq-STRING in
     (r.step.here, omega (arith, r.room, part_length c.loop-p.n c.loop-p.out))
 
 pub write_run-overflow_add-n-then-kind-eq-STRING : goal.write_run-overflow_add-n-then-kind-eq-STRING
-write_run-overflow_add-n-then-kind-eq-STRING t c = let r = (text-here t (goal.at.write_run-overflow_add-n-then-kind-eq-STRING t c).Then-kind-eq-STRING).room in omega (arith, c.write_string-bytes.ensures.value)
+write_run-overflow_add-n-then-kind-eq-STRING t c = let r = (text_here t (goal.at.write_run-overflow_add-n-then-kind-eq-STRING t c).Then-kind-eq-STRING).room in omega (arith, c.write_string-bytes.ensures.value)
 
 pub write_run-loop-p-preserved-then-kind-eq-STRING : goal.write_run-loop-p-preserved-then-kind-eq-STRING
 write_run-loop-p-preserved-then-kind-eq-STRING t c =
-    going_text c.loop-p.invariant (text-here t ((goal.at.write_run-loop-p-preserved-then-kind-eq-STRING t c).Then-kind-eq-STRING)) c.loop-p-test.true c.write_string-bytes.result c.write_string-bytes.new.out c.write_string-bytes.ensures.value c.write_string-bytes.auto.out c.write_string-bytes.ensures.out_after
+    going_text c.loop-p.invariant (text_here t (goal.at.write_run-loop-p-preserved-then-kind-eq-STRING t c).Then-kind-eq-STRING) c.loop-p-test.true c.write_string-bytes.result c.write_string-bytes.new.out c.write_string-bytes.ensures.value c.write_string-bytes.auto.out c.write_string-bytes.ensures.out_after
 
 pub write_run-write_container-bytes-requires : goal.write_run-write_container-bytes-requires
 write_run-write_container-bytes-requires t c =
-    let r = group-here t (goal.at.write_run-write_container-bytes-requires t c).Else-kind-eq-STRING in
+    let r = group_here t (goal.at.write_run-write_container-bytes-requires t c).Else-kind-eq-STRING in
     (omega arith, record { run = r.step.inside; shallow = r.deep; room = omega (arith, r.room, part_length c.loop-p.n c.loop-p.out) })
 
 pub write_run-overflow_add-n-in-loop-p : goal.write_run-overflow_add-n-in-loop-p
-write_run-overflow_add-n-in-loop-p t c = let r = (group-here t (goal.at.write_run-overflow_add-n-in-loop-p t c).Else-kind-eq-STRING).room in omega (arith, c.write_container-bytes.ensures.value)
+write_run-overflow_add-n-in-loop-p t c = let r = (group_here t (goal.at.write_run-overflow_add-n-in-loop-p t c).Else-kind-eq-STRING).room in omega (arith, c.write_container-bytes.ensures.value)
 
 pub write_run-loop-p-preserved : goal.write_run-loop-p-preserved
 write_run-loop-p-preserved t c =
-    going_group c.loop-p.invariant (group-here t ((goal.at.write_run-loop-p-preserved t c).Else-kind-eq-STRING)) c.write_container-bytes.result c.write_container-bytes.new.out c.write_container-bytes.ensures.value c.write_container-bytes.auto.out c.write_container-bytes.ensures.out_after
+    going_group c.loop-p.invariant (group_here t (goal.at.write_run-loop-p-preserved t c).Else-kind-eq-STRING) c.write_container-bytes.result c.write_container-bytes.new.out c.write_container-bytes.ensures.value c.write_container-bytes.auto.out c.write_container-bytes.ensures.out_after
 
 pub write_run-returns : goal.write_run-returns
 write_run-returns t c = let r = (going_ends _ _ _ _ _ _ _ _ c.loop-p.invariant c.loop-p-test.false) in record { value = r.0; out_after = r.1 }
@@ -170,16 +170,16 @@ pub write_container-overflow_sub-to : goal.write_container-overflow_sub-to
 write_container-overflow_sub-to t c = let n = c.requires.run.stands.number in omega arith
 
 pub write_container-overflow_add-start : goal.write_container-overflow_add-start
-write_container-overflow_add-start t c = let r = start-in t (goal.at.write_container-overflow_add-start t c).After-size_length-least in omega arith
+write_container-overflow_add-start t c = let r = start_in t (goal.at.write_container-overflow_add-start t c).After-size_length-least in omega arith
 
 pub write_container-overflow_sub-depth : goal.write_container-overflow_sub-depth
 write_container-overflow_sub-depth t c = let s = c.requires.shallow in omega arith
 
 pub write_container-slice_bounds-write_run-count : goal.write_container-slice_bounds-write_run-count
-write_container-slice_bounds-write_run-count t c = let r = start-in t (goal.at.write_container-slice_bounds-write_run-count t c).After-size_length-least in omega arith
+write_container-slice_bounds-write_run-count t c = let r = start_in t (goal.at.write_container-slice_bounds-write_run-count t c).After-size_length-least in omega arith
 
 pub write_container-slice_bounds-write_run-start : goal.write_container-slice_bounds-write_run-start
-write_container-slice_bounds-write_run-start t c = let r = start-in t (goal.at.write_container-slice_bounds-write_run-start t c).After-size_length-least in omega arith
+write_container-slice_bounds-write_run-start t c = let r = start_in t (goal.at.write_container-slice_bounds-write_run-start t c).After-size_length-least in omega arith
 
 pub write_run-overflow_sub-n : goal.write_run-overflow_sub-n
 write_run-overflow_sub-n t c = c.put_singles-q.ensures.alike.start
@@ -188,28 +188,28 @@ pub write_run-overflow_sub-n-then-table-p-lt64 : goal.write_run-overflow_sub-n-t
 write_run-overflow_sub-n-then-table-p-lt64 t c = c.put_singles-q-then-table-p-lt64.ensures.alike.start
 
 pub write_run-slice_bounds-put_leaf-count : goal.write_run-slice_bounds-put_leaf-count
-write_run-slice_bounds-put_leaf-count t c = let r = (leaf-here t (goal.at.write_run-slice_bounds-put_leaf-count t c).Then-kind-lt-STRUC).room in omega arith
+write_run-slice_bounds-put_leaf-count t c = let r = (leaf_here t (goal.at.write_run-slice_bounds-put_leaf-count t c).Then-kind-lt-STRUC).room in omega arith
 
 pub write_run-slice_bounds-put_leaf-start : goal.write_run-slice_bounds-put_leaf-start
-write_run-slice_bounds-put_leaf-start t c = let r = (leaf-here t (goal.at.write_run-slice_bounds-put_leaf-start t c).Then-kind-lt-STRUC).room in omega arith
+write_run-slice_bounds-put_leaf-start t c = let r = (leaf_here t (goal.at.write_run-slice_bounds-put_leaf-start t c).Then-kind-lt-STRUC).room in omega arith
 
 pub write_run-slice_bounds-write_string-count : goal.write_run-slice_bounds-write_string-count
-write_run-slice_bounds-write_string-count t c = let r = (text-here t (goal.at.write_run-slice_bounds-write_string-count t c).Then-kind-eq-STRING).room in omega arith
+write_run-slice_bounds-write_string-count t c = let r = (text_here t (goal.at.write_run-slice_bounds-write_string-count t c).Then-kind-eq-STRING).room in omega arith
 
 pub write_run-slice_bounds-write_string-start : goal.write_run-slice_bounds-write_string-start
-write_run-slice_bounds-write_string-start t c = let r = (text-here t (goal.at.write_run-slice_bounds-write_string-start t c).Then-kind-eq-STRING).room in omega arith
+write_run-slice_bounds-write_string-start t c = let r = (text_here t (goal.at.write_run-slice_bounds-write_string-start t c).Then-kind-eq-STRING).room in omega arith
 
 pub write_run-overflow_add-next-in-loop-p-2 : goal.write_run-overflow_add-next-in-loop-p-2
-write_run-overflow_add-next-in-loop-p-2 t c = let s = (group-here t (goal.at.write_run-overflow_add-next-in-loop-p-2 t c).Else-kind-eq-STRING).step.within in omega arith
+write_run-overflow_add-next-in-loop-p-2 t c = let s = (group_here t (goal.at.write_run-overflow_add-next-in-loop-p-2 t c).Else-kind-eq-STRING).step.within in omega arith
 
 pub write_run-slice_bounds-write_container-count : goal.write_run-slice_bounds-write_container-count
-write_run-slice_bounds-write_container-count t c = let r = (group-here t (goal.at.write_run-slice_bounds-write_container-count t c).Else-kind-eq-STRING).room in omega arith
+write_run-slice_bounds-write_container-count t c = let r = (group_here t (goal.at.write_run-slice_bounds-write_container-count t c).Else-kind-eq-STRING).room in omega arith
 
 pub write_run-slice_bounds-write_container-start : goal.write_run-slice_bounds-write_container-start
-write_run-slice_bounds-write_container-start t c = let r = (group-here t (goal.at.write_run-slice_bounds-write_container-start t c).Else-kind-eq-STRING).room in omega arith
+write_run-slice_bounds-write_container-start t c = let r = (group_here t (goal.at.write_run-slice_bounds-write_container-start t c).Else-kind-eq-STRING).room in omega arith
 
 pub write_run-loop-p-smaller : goal.write_run-loop-p-smaller
-write_run-loop-p-smaller t c = let s = (group-here t (goal.at.write_run-loop-p-smaller t c).Else-kind-eq-STRING).step.within in omega arith
+write_run-loop-p-smaller t c = let s = (group_here t (goal.at.write_run-loop-p-smaller t c).Else-kind-eq-STRING).step.within in omega arith
 
 pub write_run-shape_of-out : goal.write_run-shape_of-out
 write_run-shape_of-out t c = c.loop-p.invariant.same

@@ -8,7 +8,6 @@ decreases-write_container l = 2 * l.depth
 abbrev pub decreases-write_run : goal.decreases-write_run
 decreases-write_run l = 2 * l.depth + 1
 
--- ==== the loop: what holds at its head, and what falls
 abbrev pub invariant-write_run-loop-p : goal.invariant-write_run-loop-p
 invariant-write_run-loop-p l = Going l.table l.from l.to l.depth l.initial.out l.out l.p l.n
 

@@ -27,7 +27,7 @@ slice_bounds-put_bytes-start c = omega (arith, room (goal.at.slice_bounds-put_by
 
 pub put_bytes-requires : goal.put_bytes-requires
 put_bytes-requires c =
-    ((form ((goal.at.put_bytes-requires c).Start)).kept, omega (arith, room ((goal.at.put_bytes-requires c).Start), c.size_length-used.ensures, c.put_head.auto.out, part_length (1 + c.size_length-used.result) c.put_head.new.out))
+    ((form (goal.at.put_bytes-requires c).Start).kept, omega (arith, room ((goal.at.put_bytes-requires c).Start), c.size_length-used.ensures, c.put_head.auto.out, part_length (1 + c.size_length-used.result) c.put_head.new.out))
 
 pub overflow_add-result : goal.overflow_add-result
 overflow_add-result c = omega (arith, room (goal.at.overflow_add-result c).Start, c.size_length-used.ensures)

@@ -16,14 +16,14 @@ grouped : (t : ℕ) (c : survey_container-Else-table-p-eq-STRING t)
 grouped t c = record { header = c.requires.headed.0; some = c.requires.p_lt_to.0; kind = c.requires.headed.1; plain = c.if-table-p-eq-STRING.false }
 
 -- how long the size of its elements can be
-inner-small : (t : ℕ) (c : survey_container-After-size_length t)
+inner_small : (t : ℕ) (c : survey_container-After-size_length t)
     → (c.size_length.result ≤ 4) × (c.in-Whole.n ≤ 458752)
-inner-small t c =
+inner_small t c =
     let j = rw c.in-Whole.is at c.survey_run-inner.ensures in
     let b = passed_bound _ _ _ c.requires.headed.0 _ _ _ _ _ _ _ (omega arith) j in
     (omega (arith, c.size_length.ensures, size_most c.in-Whole.n (omega arith)), b.0)
 
--- ==== the arguments of survey_container
+-- ---- survey_container
 pub survey_container-survey_string-requires : goal.survey_container-survey_string-requires
 survey_container-survey_string-requires t c = record { headed = (c.requires.headed.0, c.if-table-p-eq-STRING.true); p_lt_to = c.requires.p_lt_to }
 
@@ -51,15 +51,15 @@ survey_container-returns-in-Wrong t c = container_wrong (grouped t (goal.at.surv
 
 pub survey_container-returns-in-Deep : goal.survey_container-returns-in-Deep
 survey_container-returns-in-Deep t c =
-    container_deep (grouped t ((goal.at.survey_container-returns-in-Deep t c).Else-table-p-eq-STRING)) _ c.if-depth-eq0.false (rw c.in-Deep.is at c.survey_run-inner.ensures)
+    container_deep (grouped t (goal.at.survey_container-returns-in-Deep t c).Else-table-p-eq-STRING) _ c.if-depth-eq0.false (rw c.in-Deep.is at c.survey_run-inner.ensures)
 
 pub survey_container-returns-else-not-kind_ok : goal.survey_container-returns-else-not-kind_ok
 survey_container-returns-else-not-kind_ok t c =
     let j = rw c.in-Whole.is at c.survey_run-inner.ensures in
-    container_whole (grouped t ((goal.at.survey_container-returns-else-not-kind_ok t c).Else-table-p-eq-STRING)) _ (omega arith) j c.if-depth-eq0.false c.if-count-table.false
+    container_whole (grouped t (goal.at.survey_container-returns-else-not-kind_ok t c).Else-table-p-eq-STRING) _ (omega arith) j c.if-depth-eq0.false c.if-count-table.false
     (sym c.kind_ok.ensures ∙ c.if-not-kind_ok.false) _ c.size_length.ensures (omega arith)
 
--- ==== the arguments of survey_run
+-- ---- survey_run
 pub survey_run-loop-p-init : goal.survey_run-loop-p-init
 survey_run-loop-p-init t c = (omega arith, passed_none _ _ _ _ _ (omega arith))
 
@@ -149,7 +149,7 @@ pub survey_container-returns-then-table-p-eq-STRING : goal.survey_container-retu
 survey_container-returns-then-table-p-eq-STRING t c = c.survey_string.ensures
 
 pub survey_container-overflow_add-result : goal.survey_container-overflow_add-result
-survey_container-overflow_add-result t c = let s = inner-small t (goal.at.survey_container-overflow_add-result t c).After-size_length in omega arith
+survey_container-overflow_add-result t c = let s = inner_small t (goal.at.survey_container-overflow_add-result t c).After-size_length in omega arith
 
 pub survey_container-overflow_add-result-in-Whole : goal.survey_container-overflow_add-result-in-Whole
-survey_container-overflow_add-result-in-Whole t c = let s = inner-small t (goal.at.survey_container-overflow_add-result-in-Whole t c).After-size_length in omega arith
+survey_container-overflow_add-result-in-Whole t c = let s = inner_small t (goal.at.survey_container-overflow_add-result-in-Whole t c).After-size_length in omega arith

@@ -9,7 +9,6 @@ decreases-survey_container l = 2 * l.depth
 abbrev pub decreases-survey_run : goal.decreases-survey_run
 decreases-survey_run l = 2 * l.depth + 1
 
--- ==== the loop: what holds at its head, and what falls
 abbrev pub invariant-survey_run-loop-p : goal.invariant-survey_run-loop-p
 invariant-survey_run-loop-p l =
     (l.p ≤ l.to) × RowsPassed l.table (words_of l.table) l.depth l.before l.from l.base l.p l.count l.n

@@ -14,7 +14,7 @@ returns-then-table-p-ne0 c = no_int (here (goal.at.returns-then-table-p-ne0 c).A
 
 pub returns-then-value-lt64 : goal.returns-then-value-lt64
 returns-then-value-lt64 c =
-    ints_passed (here ((goal.at.returns-then-value-lt64 c).After-shared_slice_known-1)) _ c.small_until-next.ensures.small_rows c.small_until-next.ensures.stops (record { kind = c.requires.headed.1; none = c.if-table-p-ne0.false; low = c.if-value-lt64.true })
+    ints_passed (here (goal.at.returns-then-value-lt64 c).After-shared_slice_known-1) _ c.small_until-next.ensures.small_rows c.small_until-next.ensures.stops (record { kind = c.requires.headed.1; none = c.if-table-p-ne0.false; low = c.if-value-lt64.true })
 
 pub returns : goal.returns
 returns c = int_passed (here (goal.at.returns c).After-shared_slice_known-1) _ c.requires.headed.1 c.if-table-p-ne0.false c.int_length.ensures

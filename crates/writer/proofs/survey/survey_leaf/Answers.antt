@@ -13,7 +13,7 @@ here c =
 
 pub returns-in-Wrong : goal.returns-in-Wrong
 returns-in-Wrong c =
-    no_bits (here ((goal.at.returns-in-Wrong c).After-shared_slice_known-1)) c.if-kind-eq-BITS.true (rw c.in-Wrong.is at c.bits_row-row.ensures)
+    no_bits (here (goal.at.returns-in-Wrong c).After-shared_slice_known-1) c.if-kind-eq-BITS.true (rw c.in-Wrong.is at c.bits_row-row.ensures)
 
 pub bits_length-requires : goal.bits_length-requires
 unfolding words_for
@@ -29,7 +29,7 @@ overflow_add-result-in-Right c =
 pub returns-in-Right : goal.returns-in-Right
 returns-in-Right c =
     let j = rw c.in-Right.is at c.bits_row-row.ensures in
-    bits_passed (here ((goal.at.returns-in-Right c).After-shared_slice_known-1)) _ _ c.if-kind-eq-BITS.true j c.bits_length.ensures
+    bits_passed (here (goal.at.returns-in-Right c).After-shared_slice_known-1) _ _ c.if-kind-eq-BITS.true j c.bits_length.ensures
 
 pub returns-then-plain_ok : goal.returns-then-plain_ok
 returns-then-plain_ok c =
@@ -38,4 +38,4 @@ returns-then-plain_ok c =
 
 pub returns : goal.returns
 returns c =
-    no_plain (here ((goal.at.returns c).After-shared_slice_known-1)) c.requires.headed.1 c.if-kind-eq-BITS.false (sym c.plain_ok.ensures ∙ c.if-plain_ok.false)
+    no_plain (here (goal.at.returns c).After-shared_slice_known-1) c.requires.headed.1 c.if-kind-eq-BITS.false (sym c.plain_ok.ensures ∙ c.if-plain_ok.false)

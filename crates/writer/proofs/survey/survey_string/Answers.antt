@@ -29,12 +29,12 @@ overflow_add-result-in-Right-2 c =
 
 pub returns-in-Wrong : goal.returns-in-Wrong
 returns-in-Wrong c =
-    text_wrong (here ((goal.at.returns-in-Wrong c).After-shared_slice_known-1)) c.requires.headed.1 (rw c.in-Wrong.is at c.string_row-row.ensures)
+    text_wrong (here (goal.at.returns-in-Wrong c).After-shared_slice_known-1) c.requires.headed.1 (rw c.in-Wrong.is at c.string_row-row.ensures)
 
 pub returns-in-Right : goal.returns-in-Right
 returns-in-Right c =
     let j = rw c.in-Right.is at c.string_row-row.ensures in
-    text_whole (here ((goal.at.returns-in-Right c).After-shared_slice_known-1)) c.requires.headed.1 _ _ _ c.if-depth-eq0.false j c.size_length.ensures
+    text_whole (here (goal.at.returns-in-Right c).After-shared_slice_known-1) c.requires.headed.1 _ _ _ c.if-depth-eq0.false j c.size_length.ensures
 
 pub overflow_add-result : goal.overflow_add-result
 overflow_add-result c = let s = small (goal.at.overflow_add-result c).After-size_length in omega arith
