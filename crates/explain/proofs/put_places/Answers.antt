@@ -18,12 +18,3 @@ returns c =
 
 pub loop-i-init : goal.loop-i-init
 loop-i-init c = (omega arith, sym (over_none _), refl)
-
-pub bounds-trail-i : goal.bounds-trail-i
-bounds-trail-i c = omega (arith, c.requires.0)
-
-pub bounds-list-i : goal.bounds-list-i
-bounds-list-i c = omega (arith, c.loop-i.invariant.2, c.requires.1)
-
-pub shape_of-list : goal.shape_of-list
-shape_of-list c = c.loop-i.invariant.2

@@ -6,9 +6,3 @@ apart_from-requires c = rw (c.next_row.ensures, c.next_row-2.ensures) c.requires
 
 pub returns : goal.returns
 returns c = rw (c.next_row.ensures, c.next_row-2.ensures) at c.apart_from.ensures
-
-pub next_row-requires : goal.next_row-requires
-next_row-requires c = c.requires.rows.left
-
-pub next_row-requires-2 : goal.next_row-requires-2
-next_row-requires-2 c = c.requires.rows.right

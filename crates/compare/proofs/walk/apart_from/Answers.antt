@@ -24,9 +24,6 @@ returns-in-loop-i c = pass_met _ _ _ _ _ _ c.loop-i.invariant.1 (sym c.rows_alik
 pub returns : goal.returns
 returns c = pass_end _ _ _ _ _ _ c.loop-i.invariant.1 (omega arith)
 
-pub bounds-left-0 : goal.bounds-left-0
-bounds-left-0 c = omega (arith, c.requires.walk.left.within)
-
 pub loop-i-init : goal.loop-i-init
 loop-i-init c = (refl, pass_starts _ _ _ _)
 

@@ -14,9 +14,6 @@ pub loop-i-preserved : goal.loop-i-preserved
 loop-i-preserved c =
     (c.loop-i.invariant.0, count_on _ _ _ _ _ c.loop-i.invariant.1 (omega arith) _ _ c.apart_behind-next.ensures)
 
-pub bounds-left-0 : goal.bounds-left-0
-bounds-left-0 c = omega (arith, c.requires.walk.left.within)
-
 pub loop-i-init : goal.loop-i-init
 loop-i-init c = (refl, count_starts _ _ _ _ c.requires)
 

@@ -36,18 +36,6 @@ returns-in-Text c = site_text _ _ _ _ _ c.head_of-h.ensures _ _ c.in-Text.is
 pub returns-in-Open : goal.returns-in-Open
 returns-in-Open c = site_open _ _ _ _ _ c.head_of-h.ensures _ _ _ c.in-Open.is _ c.closed_at.ensures
 
-pub bounds-m-at : goal.bounds-m-at
-bounds-m-at c = omega (arith, c.requires)
-
-pub slice_bounds-head_of-count : goal.slice_bounds-head_of-count
-slice_bounds-head_of-count c = omega (arith, c.requires)
-
-pub slice_bounds-head_of-start : goal.slice_bounds-head_of-start
-slice_bounds-head_of-start c = omega (arith, c.requires)
-
-pub slice_bounds-head_of-end : goal.slice_bounds-head_of-end
-slice_bounds-head_of-end c = omega (arith, c.requires)
-
 pub head_of-h-requires : goal.head_of-h-requires
 head_of-h-requires c = omega (arith, part_small c.args.m.now (c.args.at + 1) c.args.end (omega (arith, c.requires)), c.requires)
 

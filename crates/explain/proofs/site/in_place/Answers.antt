@@ -12,8 +12,5 @@ loop-i-preserved c = (omega arith, in_place_on _ _ _ c.loop-i-test.true c.if-b.f
 pub loop-i-init : goal.loop-i-init
 loop-i-init c = (omega arith, in_place_start _ _)
 
-pub overflow_add-result : goal.overflow_add-result
-overflow_add-result c = omega (arith, c.requires)
-
 pub returns : goal.returns
 returns c = in_place_none _ _ c.loop-i.i (omega arith) c.loop-i.invariant.1

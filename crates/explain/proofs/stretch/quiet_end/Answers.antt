@@ -4,12 +4,6 @@ use mathlib.Core.Logic.{inl, inr}
 use Rattle.explain.proofs.Singles.{ranged_quiet, none_quiet, part_long}
 use Rattle.explain.proofs.stretch.quiet_end.Goals as goal
 
-pub bounds-m-i : goal.bounds-m-i
-bounds-m-i c = omega (arith, c.requires)
-
-pub slice_bounds-padding_end-end : goal.slice_bounds-padding_end-end
-slice_bounds-padding_end-end c = omega (arith, c.requires)
-
 pub padding_end-requires : goal.padding_end-requires
 padding_end-requires c = part_long _ _ _ c.requires.0 c.requires.1
 
@@ -19,9 +13,6 @@ returns-then-b c = ranged_quiet _ _ _ _ _ _ c.requires.1 c.padding_end.ensures _
 pub returns-then-second-eq0 : goal.returns-then-second-eq0
 returns-then-second-eq0 c = none_quiet _ _ _ _ _ c.requires.0
 
-pub slice_bounds-chars_end-end : goal.slice_bounds-chars_end-end
-slice_bounds-chars_end-end c = omega (arith, c.requires)
-
 pub chars_end-requires : goal.chars_end-requires
 chars_end-requires c = part_long _ _ _ c.requires.0 c.requires.1
 
@@ -30,9 +21,6 @@ returns-then-b-lt128 c = ranged_quiet _ _ _ _ _ _ c.requires.1 c.chars_end.ensur
 
 pub returns-then-asked-eq-CHAR : goal.returns-then-asked-eq-CHAR
 returns-then-asked-eq-CHAR c = none_quiet _ _ _ _ _ c.requires.0
-
-pub slice_bounds-until-end : goal.slice_bounds-until-end
-slice_bounds-until-end c = omega (arith, c.requires)
 
 pub until-requires : goal.until-requires
 until-requires c = part_long _ _ _ c.requires.0 c.requires.1

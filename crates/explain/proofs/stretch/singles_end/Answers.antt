@@ -4,20 +4,11 @@ use mathlib.Core.Logic.{inl, inr}
 use Rattle.explain.proofs.Singles.{ranged_singles, none_single, part_long}
 use Rattle.explain.proofs.stretch.singles_end.Goals as goal
 
-pub bounds-m-i : goal.bounds-m-i
-bounds-m-i c = omega (arith, c.requires)
-
-pub slice_bounds-padding_end-end : goal.slice_bounds-padding_end-end
-slice_bounds-padding_end-end c = omega (arith, c.requires)
-
 pub padding_end-requires : goal.padding_end-requires
 padding_end-requires c = part_long _ _ _ c.requires.0 c.requires.1
 
 pub returns-then-b : goal.returns-then-b
 returns-then-b c = ranged_singles _ _ _ _ _ _ c.requires.1 c.padding_end.ensures (λ b p q. inr (omega arith))
-
-pub slice_bounds-until-end : goal.slice_bounds-until-end
-slice_bounds-until-end c = omega (arith, c.requires)
 
 pub until-requires : goal.until-requires
 until-requires c = part_long _ _ _ c.requires.0 c.requires.1

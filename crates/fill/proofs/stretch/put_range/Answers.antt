@@ -9,12 +9,3 @@ loop-j-preserved c =
 
 pub loop-j-init : goal.loop-j-init
 loop-j-init c = let p = c.requires in range_start _ _ _ _ p.0 p.1
-
-pub returns-then-b-lo : goal.returns-then-b-lo
-returns-then-b-lo c = c.loop-j.invariant
-
-pub returns-then-b-hi : goal.returns-then-b-hi
-returns-then-b-hi c = c.loop-j.invariant
-
-pub returns : goal.returns
-returns c = c.loop-j.invariant

@@ -18,12 +18,3 @@ loop-table-preserved c =
 
 pub loop-table-init : goal.loop-table-init
 loop-table-init c = let p = c.requires in stretched_none _ _ _ _ p.0 p.1
-
-pub returns-then-s-upto : goal.returns-then-s-upto
-returns-then-s-upto c = c.loop-table.invariant
-
-pub returns-then-s-upto-2 : goal.returns-then-s-upto-2
-returns-then-s-upto-2 c = c.loop-table.invariant
-
-pub returns : goal.returns
-returns c = c.loop-table.invariant

@@ -35,6 +35,3 @@ put_low-requires c = raw_room (words_fit (string_at (goal.at.put_low-requires c)
 
 pub put_row-requires : goal.put_row-requires
 put_row-requires c = row_room (string_at (goal.at.put_row-requires c).Then-few_bytewise) c.put_low.new.table
-
-pub returns : goal.returns
-returns c = c.put_string.ensures

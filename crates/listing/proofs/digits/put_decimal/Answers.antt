@@ -30,6 +30,3 @@ returns c =
     let z : c.loop-i.i - c.args.at ≡ 0 = omega arith in
     let p : over_at c.args.at (decimal c.args.n) c.args.out.now ≡ over_at c.args.at (last_digits 0 c.loop-i.x) c.loop-i.out = rw z at c.loop-i.invariant.4 in
     record { room = omega arith; next = c.loop-i.invariant.3; is = (nothing c.args.at c.loop-i.out (omega arith)).is ∙ sym p }
-
-pub shape_of-out : goal.shape_of-out
-shape_of-out c = c.loop-i.invariant.2

@@ -71,6 +71,3 @@ pub returns : goal.returns
 returns c =
     let h = stream_length _ _ (bits_at _ _ c.requires.leaf_at.0 c.requires.leaf_at.1) in
     rw (take_all c.loop-i.i (bit_text (leaf_bits (leaf_at c.args.table.now c.args.p))) (omega arith)) at c.loop-i.invariant.4
-
-pub shape_of-out : goal.shape_of-out
-shape_of-out c = c.loop-i.invariant.1

@@ -12,12 +12,3 @@ returns-then-kind_at-eq-EMPTY-2 c = second_empty _ _ c.kind_at.ensures c.if-kind
 pub returns : goal.returns
 returns c =
     third_empty _ _ c.kind_at.ensures c.if-kind_at-eq-EMPTY.false _ c.kind_at-2.ensures c.if-kind_at-eq-EMPTY-2.false _ c.kind_at-3.ensures
-
-pub kind_at-requires : goal.kind_at-requires
-kind_at-requires c = omega (arith, c.requires)
-
-pub kind_at-requires-2 : goal.kind_at-requires-2
-kind_at-requires-2 c = omega (arith, c.requires)
-
-pub kind_at-requires-3 : goal.kind_at-requires-3
-kind_at-requires-3 c = omega (arith, c.requires)

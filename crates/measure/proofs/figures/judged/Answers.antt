@@ -54,9 +54,6 @@ returns c =
     let w = c.args.table.now in
     c.measured.ensures ∙ in_range_told w _ (sheet (goal.at.returns c).Else-not-is_sheet) (full (goal.at.returns c).Else-any_empty) (sym (tried (goal.at.returns c).After-all_fair) ∙ c.if-not-all_fair.false)
 
-pub is_sheet-requires : goal.is_sheet-requires
-is_sheet-requires c = c.requires
-
 pub any_empty-requires : goal.any_empty-requires
 any_empty-requires c = room (goal.at.any_empty-requires c).Else-not-is_sheet
 

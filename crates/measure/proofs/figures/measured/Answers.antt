@@ -20,21 +20,6 @@ returns c =
     sheet_told _ _ _ _ _ _ _ _ c.requires z c.value_at-unit.ensures c.value_at-chest.ensures c.value_at-waist.ensures
     c.value_at-sleeve.ensures c.per_unit-each.ensures
 
-pub value_at-unit-requires : goal.value_at-unit-requires
-value_at-unit-requires c = omega (arith, c.requires.room)
-
-pub value_at-chest-requires : goal.value_at-chest-requires
-value_at-chest-requires c = omega (arith, c.requires.room)
-
-pub value_at-waist-requires : goal.value_at-waist-requires
-value_at-waist-requires c = omega (arith, c.requires.room)
-
-pub value_at-sleeve-requires : goal.value_at-sleeve-requires
-value_at-sleeve-requires c = omega (arith, c.requires.room)
-
-pub value_at-requires : goal.value_at-requires
-value_at-requires c = omega (arith, c.requires.room)
-
 pub overflow_mul-result : goal.overflow_mul-result
 overflow_mul-result c = omega (arith, (small (goal.at.overflow_mul-result c).After-value_of).0)
 

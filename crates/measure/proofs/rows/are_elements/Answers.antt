@@ -38,9 +38,6 @@ returns c =
     (eq_holds _ _ 1 _ _ c.kind_at.ensures c.if-kind_at-ne-INT.false
     (test_holds _ _ _ _ c.is_unit.ensures c.if-not-is_unit.false c.are_figures.ensures)))
 
-pub is_type-requires : goal.is_type-requires
-is_type-requires c = c.requires
-
 pub is_int-requires : goal.is_int-requires
 is_int-requires c = omega (arith, rows_room _ c.requires.0 c.requires.1)
 

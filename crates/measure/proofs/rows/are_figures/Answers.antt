@@ -21,12 +21,3 @@ returns c =
     test_holds _ _ _ _ (c.is_figure.ensures ∙ ap is_figure c.kind_at.ensures) c.if-not-is_figure.false
     (test_holds _ _ _ _ (c.is_figure-2.ensures ∙ ap is_figure c.kind_at-2.ensures) c.if-not-is_figure-2.false
     (c.is_figure-3.ensures ∙ ap is_figure c.kind_at-3.ensures))
-
-pub kind_at-requires : goal.kind_at-requires
-kind_at-requires c = omega (arith, c.requires)
-
-pub kind_at-requires-2 : goal.kind_at-requires-2
-kind_at-requires-2 c = omega (arith, c.requires)
-
-pub kind_at-requires-3 : goal.kind_at-requires-3
-kind_at-requires-3 c = omega (arith, c.requires)

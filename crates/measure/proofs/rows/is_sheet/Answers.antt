@@ -13,8 +13,5 @@ pub returns : goal.returns
 unfolding is_sheet
 returns c = test_holds _ _ _ _ c.is_one_edt.ensures c.if-not-is_one_edt.false c.are_elements.ensures
 
-pub is_one_edt-requires : goal.is_one_edt-requires
-is_one_edt-requires c = c.requires
-
 pub are_elements-requires : goal.are_elements-requires
 are_elements-requires c = (c.requires, one_edt_rows _ (sym c.is_one_edt.ensures ∙ c.if-not-is_one_edt.false))

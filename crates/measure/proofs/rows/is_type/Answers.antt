@@ -16,6 +16,3 @@ returns c = c.is_name.ensures ∙ sym (pick_no _ _ _ (sym c.is_int.ensures ∙ c
 
 pub is_int-requires : goal.is_int-requires
 is_int-requires c = omega (arith, rows_room _ c.requires.0 c.requires.1)
-
-pub is_name-requires : goal.is_name-requires
-is_name-requires c = c.requires

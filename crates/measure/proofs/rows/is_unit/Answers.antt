@@ -13,9 +13,3 @@ returns-then-kind_at-ne-XTRA c = eq_fails _ _ 6 _ c.kind_at.ensures c.if-kind_at
 pub returns : goal.returns
 unfolding is_unit
 returns c = eq_holds _ _ 6 _ _ c.kind_at.ensures c.if-kind_at-ne-XTRA.false (ap (λ b. ltb b 2) c.value_at.ensures)
-
-pub kind_at-requires : goal.kind_at-requires
-kind_at-requires c = omega (arith, c.requires)
-
-pub value_at-requires : goal.value_at-requires
-value_at-requires c = omega (arith, c.requires)

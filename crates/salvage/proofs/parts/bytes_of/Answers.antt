@@ -83,6 +83,3 @@ returns-in-Padding c =
 
 pub reserved_bytes-requires : goal.reserved_bytes-requires
 reserved_bytes-requires c = (c.requires, sym c.class_of-class.ensures ∙ c.in-Reserved.is)
-
-pub returns-in-Reserved : goal.returns-in-Reserved
-returns-in-Reserved c = c.reserved_bytes.ensures

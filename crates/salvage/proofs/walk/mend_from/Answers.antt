@@ -38,9 +38,6 @@ loop-k-init c = laid_start _ _ _ _ c.requires.clean.0 c.requires.clean.1
 pub part_at-part-requires : goal.part_at-part-requires
 part_at-part-requires c = (c.requires.has_room.0.short, (some_left _ _ _ _ _ _ _ _ c.loop-k.invariant c.requires.has_room.0 (omega (arith, c.loop-k-test.true, c.requires.has_room.1))))
 
-pub overflow_sub-input : goal.overflow_sub-input
-overflow_sub-input c = c.loop-k.invariant.upto
-
 pub put_change-requires : goal.put_change-requires
 put_change-requires c = lost_room _ _ _ _ _ _ _ _ c.loop-k.invariant c.requires.has_room.0 (some_left _ _ _ _ _ _ _ _ c.loop-k.invariant c.requires.has_room.0 (omega (arith, c.loop-k-test.true, c.requires.has_room.1)))
     c.part_at-part.result c.part_at-part.ensures c.if-n-eq0.true
@@ -106,12 +103,6 @@ loop-k-smaller c = omega (
       c.part_at-part.ensures,
   c.if-n-eq0.false,
 )
-
-pub slice_bounds-copy_to-count-2 : goal.slice_bounds-copy_to-count-2
-slice_bounds-copy_to-count-2 c = c.loop-k.invariant.upto
-
-pub slice_bounds-copy_to-start-2 : goal.slice_bounds-copy_to-start-2
-slice_bounds-copy_to-start-2 c = c.loop-k.invariant.upto
 
 pub copy_to-requires-2 : goal.copy_to-requires-2
 copy_to-requires-2 c = end_room _ _ _ _ _ _ _ _ c.loop-k.invariant (omega (arith, c.loop-k-test.false, c.requires.has_room.1)) c.requires.has_room.0

@@ -22,9 +22,6 @@ loop-p-preserved c =
 pub loop-p-init : goal.loop-p-init
 loop-p-init c = survey_start _
 
-pub overflow_add-result : goal.overflow_add-result
-overflow_add-result c = omega (arith, c.loop-p.invariant.few_changes, c.loop-p.invariant.upto, c.requires)
-
 pub overflow_add-p : goal.overflow_add-p
 overflow_add-p c = omega (arith, part_upto c.args.input.now c.loop-p.p c.part_at-part.result (omega (arith, c.loop-p-test.true)) c.part_at-part.ensures, c.requires)
 
@@ -53,15 +50,6 @@ overflow_add-words c = omega (
 
 pub loop-p-smaller-then-part-eq0-2 : goal.loop-p-smaller-then-part-eq0-2
 loop-p-smaller-then-part-eq0-2 c = omega (arith, part_upto c.args.input.now c.loop-p.p c.part_at-part.result (omega (arith, c.loop-p-test.true)) c.part_at-part.ensures, c.if-part-eq0.false)
-
-pub overflow_add-bytes-in-loop-p : goal.overflow_add-bytes-in-loop-p
-overflow_add-bytes-in-loop-p c = omega (arith, c.loop-p.invariant.few_bytes, c.loop-p.invariant.upto, c.requires)
-
-pub overflow_add-entries : goal.overflow_add-entries
-overflow_add-entries c = omega (arith, c.loop-p.invariant.few_changes, c.loop-p.invariant.upto, c.requires)
-
-pub overflow_add-rows-in-loop-p : goal.overflow_add-rows-in-loop-p
-overflow_add-rows-in-loop-p c = omega (arith, c.loop-p.invariant.few_rows, c.loop-p.invariant.upto, c.requires)
 
 pub loop-p-smaller : goal.loop-p-smaller
 loop-p-smaller c = omega (arith, part_upto c.args.input.now c.loop-p.p c.part_at-part.result (omega (arith, c.loop-p-test.true)) c.part_at-part.ensures, c.if-part-eq0.false)

@@ -4,6 +4,3 @@ use Rattle.scan.proofs.stretch.all_chars.Goals as goal
 
 pub returns-then-s-ge128 : goal.returns-then-s-ge128
 returns-then-s-ge128 c = λ e. absurd (false≢true e)
-
-pub returns : goal.returns
-returns c = c.all_low.ensures

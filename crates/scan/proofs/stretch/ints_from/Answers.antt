@@ -53,9 +53,6 @@ loop-e-preserved c =
 pub loop-e-smaller-then-is_sinteger : goal.loop-e-smaller-then-is_sinteger
 loop-e-smaller-then-is_sinteger c = let u = c.smalls_end-r.ensures in omega (arith, u.0, u.1)
 
-pub returns-then-not-is_linteger : goal.returns-then-not-is_linteger
-returns-then-not-is_linteger c = c.loop-e.invariant
-
 pub overflow_add-size : goal.overflow_add-size
 overflow_add-size c = let u = c.following_of-size.ensures in omega arith
 
@@ -68,14 +65,5 @@ overflow_add-many-then-left-ge64 c = let m = c.same_ints-l.ensures in omega (ari
 pub loop-e-smaller-then-left-ge64 : goal.loop-e-smaller-then-left-ge64
 loop-e-smaller-then-left-ge64 c = let m = c.same_ints-l.ensures in omega (arith, m.comes.piece.from, m.comes.piece.to)
 
-pub returns-then-left-size : goal.returns-then-left-size
-returns-then-left-size c = c.loop-e.invariant
-
-pub overflow_add-e-in-loop-e : goal.overflow_add-e-in-loop-e
-overflow_add-e-in-loop-e c = omega (arith, c.if-left-size.false)
-
 pub overflow_add-many-in-loop-e : goal.overflow_add-many-in-loop-e
 overflow_add-many-in-loop-e c = let l = c.loop-e.invariant.few in omega arith
-
-pub returns : goal.returns
-returns c = c.loop-e.invariant

@@ -14,9 +14,3 @@ loop-e-preserved c =
 
 pub overflow_sub-s : goal.overflow_sub-s
 overflow_sub-s c = let l = c.loop-e.invariant.comes.piece.to in omega arith
-
-pub returns-then-s-e : goal.returns-then-s-e
-returns-then-s-e c = c.loop-e.invariant
-
-pub returns : goal.returns
-returns c = c.loop-e.invariant

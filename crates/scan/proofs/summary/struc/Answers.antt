@@ -15,6 +15,3 @@ unfolding struc_of
 returns c =
     let e = c.struc_lead-lead.ensures in
     c.container.ensures ∙ rw e (sym (if_eq_no _ _ _ _ (λ z. c.if-lead-eq-STRING.false (e ∙ z))))
-
-pub text_of-requires : goal.text_of-requires
-text_of-requires c = omega (arith, c.capped.ensures)

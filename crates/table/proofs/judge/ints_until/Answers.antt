@@ -7,12 +7,3 @@ loop-q-preserved c = ints_on _ _ _ _ c.loop-q.invariant c.loop-q-test.true c.if-
 
 pub loop-q-init : goal.loop-q-init
 loop-q-init c = ints_start _ _ _ c.requires.start
-
-pub returns-then-table-q-ne-INT : goal.returns-then-table-q-ne-INT
-returns-then-table-q-ne-INT c = c.loop-q.invariant
-
-pub returns-then-table-q-ne0 : goal.returns-then-table-q-ne0
-returns-then-table-q-ne0 c = c.loop-q.invariant
-
-pub returns : goal.returns
-returns c = c.loop-q.invariant

@@ -53,6 +53,3 @@ returns c =
 
 pub ints_until-next-requires : goal.ints_until-next-requires
 ints_until-next-requires c = let h = c.requires in record { start = omega arith; within = omega (arith, h.within); few = h.few }
-
-pub loop-p-smaller-then-next-p : goal.loop-p-smaller-then-next-p
-loop-p-smaller-then-next-p c = omega (arith, c.ints_until-next.ensures.within)

@@ -18,6 +18,3 @@ loop-i-preserved c = (omega arith, c.loop-i.invariant.1 ∙ low_yes _ _ _ _ (ome
 
 pub returns : goal.returns
 returns c = sym (c.loop-i.invariant.1 ∙ low_end _ _ _ (omega arith))
-
-pub returns-then-count-ge8 : goal.returns-then-count-ge8
-returns-then-count-ge8 c = c.low_joined.ensures

@@ -5,10 +5,6 @@ use Rattle.wire.proofs.WordLaws.{number_high}
 use borrow.Author.Rules.{rules}
 use Rattle.wire.proofs.integer.integer_of.Goals as goal
 
--- eight bytes are there
-pub word_at-requires : goal.word_at-requires
-word_at-requires c = search rules
-
 pub returns-then-s-ge8 : goal.returns-then-s-ge8
 returns-then-s-ge8 c =
     let w = c.word_at in

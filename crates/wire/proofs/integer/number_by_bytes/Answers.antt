@@ -35,14 +35,5 @@ returns c =
     let e : c.loop-i.i ≡ c.args.k = omega arith in
     (rw e at c.loop-i.invariant.2, rw e at c.loop-i.invariant.1)
 
-pub bounds-s-i : goal.bounds-s-i
-bounds-s-i c = omega arith
-
 pub wide-requires : goal.wide-requires
 wide-requires c = tt
-
-pub overflow_add-i : goal.overflow_add-i
-overflow_add-i c = omega arith
-
-pub loop-i-smaller : goal.loop-i-smaller
-loop-i-smaller c = omega arith

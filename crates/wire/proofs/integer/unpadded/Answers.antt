@@ -14,12 +14,3 @@ loop-i-preserved c = (omega arith, skip_one c.args.s.now c.loop-i.i (omega arith
 
 pub returns : goal.returns
 returns c = record { within = omega arith; skipped = c.loop-i.invariant.1; there = λ h. absurd (omega arith) }
-
-pub bounds-s-i : goal.bounds-s-i
-bounds-s-i c = omega arith
-
-pub overflow_add-i : goal.overflow_add-i
-overflow_add-i c = omega arith
-
-pub loop-i-smaller : goal.loop-i-smaller
-loop-i-smaller c = omega arith

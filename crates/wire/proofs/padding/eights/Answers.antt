@@ -13,9 +13,3 @@ loop-e-preserved c =
     let s = c.args.s.now in
     let m = all_ones s c.loop-e.e (λ i. omega (arith, c.shared_slice_known-1.given i)) (omega arith) in
     ranged_join 0xff 0xff _ c.loop-e.e (c.loop-e.e + 8) s c.loop-e.invariant (omega arith) (omega arith) m
-
-pub returns-then-word_at : goal.returns-then-word_at
-returns-then-word_at c = c.loop-e.invariant
-
-pub returns : goal.returns
-returns c = c.loop-e.invariant

@@ -6,12 +6,3 @@ use Rattle.wire.proofs.padding.padding_end.Goals as goal
 pub loop-e-preserved : goal.loop-e-preserved
 loop-e-preserved c =
     ranged_next 0xff 0xff _ c.loop-e.e c.args.s.now c.loop-e.invariant (omega arith) (omega arith) (omega arith)
-
-pub loop-e-init : goal.loop-e-init
-loop-e-init c = c.eights-e.ensures
-
-pub returns-then-s-e : goal.returns-then-s-e
-returns-then-s-e c = c.loop-e.invariant
-
-pub returns : goal.returns
-returns c = c.loop-e.invariant

@@ -18,26 +18,8 @@ returns c =
     let e : c.loop-i.i ≡ c.args.k = omega arith in
     rw e at c.loop-i.invariant.1
 
-pub overflow_mul-n : goal.overflow_mul-n
-overflow_mul-n c = omega arith
-
-pub overflow_add-i : goal.overflow_add-i
-overflow_add-i c = omega arith
-
-pub bounds-s-i : goal.bounds-s-i
-bounds-s-i c = omega arith
-
 pub wide-requires : goal.wide-requires
 wide-requires c = tt
 
-pub overflow_add-n : goal.overflow_add-n
-overflow_add-n c = omega arith
-
 pub capped-n-requires : goal.capped-n-requires
 capped-n-requires c = tt
-
-pub overflow_add-i-in-loop-i : goal.overflow_add-i-in-loop-i
-overflow_add-i-in-loop-i c = omega arith
-
-pub loop-i-smaller : goal.loop-i-smaller
-loop-i-smaller c = omega arith

@@ -13,12 +13,3 @@ loop-e-preserved c =
     let m = c.spread_of-w in
     let w = between_wider m.result.low m.result.high _ _ c.loop-e.e (c.loop-e.e + 64) s m.ensures c.if-w-lo.false c.if-w-hi.false in
     ranged_join _ _ _ c.loop-e.e (c.loop-e.e + 64) s c.loop-e.invariant (omega arith) (omega arith) w
-
-pub returns-then-w-lo : goal.returns-then-w-lo
-returns-then-w-lo c = c.loop-e.invariant
-
-pub returns-then-w-hi : goal.returns-then-w-hi
-returns-then-w-hi c = c.loop-e.invariant
-
-pub returns : goal.returns
-returns c = c.loop-e.invariant

@@ -11,9 +11,3 @@ loop-e-init c =
 
 pub loop-e-preserved : goal.loop-e-preserved
 loop-e-preserved c = ranged_next _ _ _ _ c.args.s.now c.loop-e.invariant (omega arith) zero-le c.if-s-e-gt127.false
-
-pub returns-then-s-e-gt127 : goal.returns-then-s-e-gt127
-returns-then-s-e-gt127 c = c.loop-e.invariant
-
-pub returns : goal.returns
-returns c = c.loop-e.invariant

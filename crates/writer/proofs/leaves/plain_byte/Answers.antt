@@ -20,18 +20,3 @@ returns-then-kind-eq-EMPTY c = sym (if_eq_no _ 3 _ _ c.if-kind-eq-CHAR.false ∙
 pub returns : goal.returns
 unfolding plain_byte
 returns c = sym (if_eq_no _ 3 _ _ c.if-kind-eq-CHAR.false ∙ if_eq_no _ 4 _ _ c.if-kind-eq-BOOL.false ∙ if_eq_no _ 5 _ _ c.if-kind-eq-EMPTY.false)
-
-pub overflow_cast-result : goal.overflow_cast-result
-overflow_cast-result c = omega (arith, c.requires.0 c.if-kind-eq-CHAR.true)
-
-pub overflow_add-result : goal.overflow_add-result
-overflow_add-result c = omega (arith, c.requires.1 c.if-kind-eq-CHAR.false)
-
-pub overflow_cast-result-then-kind-eq-BOOL : goal.overflow_cast-result-then-kind-eq-BOOL
-overflow_cast-result-then-kind-eq-BOOL c = omega (arith, c.requires.1 c.if-kind-eq-CHAR.false)
-
-pub overflow_add-result-2 : goal.overflow_add-result-2
-overflow_add-result-2 c = omega (arith, c.requires.1 c.if-kind-eq-CHAR.false)
-
-pub overflow_cast-result-2 : goal.overflow_cast-result-2
-overflow_cast-result-2 c = omega (arith, c.requires.1 c.if-kind-eq-CHAR.false)

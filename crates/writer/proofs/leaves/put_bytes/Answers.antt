@@ -53,6 +53,3 @@ returns-then-rest-gt0 c =
 
 pub returns-else-rest-gt0 : goal.returns-else-rest-gt0
 returns-else-rest-gt0 c = laying_ends _ _ _ _ c.requires c.loop-i.out c.loop-i.i c.loop-i.invariant.1 (omega arith)
-
-pub shape_of-out-else-rest-gt0 : goal.shape_of-out-else-rest-gt0
-shape_of-out-else-rest-gt0 c = c.loop-i.invariant.1.same

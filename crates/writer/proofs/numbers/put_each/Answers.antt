@@ -19,6 +19,3 @@ unfolding be over
 returns c =
     let e : c.loop-i.i ≡ 0 = omega arith in
     sym (rw e at c.loop-i.invariant.2)
-
-pub shape_of-out : goal.shape_of-out
-shape_of-out c = c.loop-i.invariant.1

@@ -181,12 +181,6 @@ write_container-slice_bounds-write_run-count t c = let r = start_in t (goal.at.w
 pub write_container-slice_bounds-write_run-start : goal.write_container-slice_bounds-write_run-start
 write_container-slice_bounds-write_run-start t c = let r = start_in t (goal.at.write_container-slice_bounds-write_run-start t c).After-size_length-least in omega arith
 
-pub write_run-overflow_sub-n : goal.write_run-overflow_sub-n
-write_run-overflow_sub-n t c = c.put_singles-q.ensures.alike.start
-
-pub write_run-overflow_sub-n-then-table-p-lt64 : goal.write_run-overflow_sub-n-then-table-p-lt64
-write_run-overflow_sub-n-then-table-p-lt64 t c = c.put_singles-q-then-table-p-lt64.ensures.alike.start
-
 pub write_run-slice_bounds-put_leaf-count : goal.write_run-slice_bounds-put_leaf-count
 write_run-slice_bounds-put_leaf-count t c = let r = (leaf_here t (goal.at.write_run-slice_bounds-put_leaf-count t c).Then-kind-lt-STRUC).room in omega arith
 
@@ -210,6 +204,3 @@ write_run-slice_bounds-write_container-start t c = let r = (group_here t (goal.a
 
 pub write_run-loop-p-smaller : goal.write_run-loop-p-smaller
 write_run-loop-p-smaller t c = let s = (group_here t (goal.at.write_run-loop-p-smaller t c).Else-kind-eq-STRING).step.within in omega arith
-
-pub write_run-shape_of-out : goal.write_run-shape_of-out
-write_run-shape_of-out t c = c.loop-p.invariant.same

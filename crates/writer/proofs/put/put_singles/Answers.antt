@@ -23,17 +23,5 @@ loop-q-preserved c =
 pub returns : goal.returns
 returns c = record { alike = strung_ends _ _ _ _ _ _ _ _ _ _ c.loop-q.invariant.1 c.loop-q.invariant.0 (λ l k b. omega (arith, c.loop-q-test.false)); out_after = c.loop-q.invariant.1.written }
 
-pub shape_of-out-then-table-q : goal.shape_of-out-then-table-q
-shape_of-out-then-table-q c = c.loop-q.invariant.1.same
-
-pub shape_of-out-then-b-most : goal.shape_of-out-then-b-most
-shape_of-out-then-b-most c = c.loop-q.invariant.1.same
-
-pub overflow_sub-out : goal.overflow_sub-out
-overflow_sub-out c = c.loop-q.invariant.1.start
-
 pub overflow_add-out-in-loop-q : goal.overflow_add-out-in-loop-q
 overflow_add-out-in-loop-q c = let a = c.loop-q.invariant.1.start in omega arith
-
-pub shape_of-out : goal.shape_of-out
-shape_of-out c = c.loop-q.invariant.1.same

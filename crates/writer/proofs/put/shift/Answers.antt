@@ -19,6 +19,3 @@ pub returns : goal.returns
 returns c =
     let z : c.loop-i.i ≡ 0 = omega arith in
     c.loop-i.invariant.2 ∙ ap (λ i. moving c.args.from c.args.n c.args.by i c.args.out.now) z ∙ moving_none c.args.from c.args.n c.args.by c.args.out.now
-
-pub shape_of-out : goal.shape_of-out
-shape_of-out c = c.loop-i.invariant.1

@@ -145,9 +145,6 @@ survey_run-returns t c =
     let e : c.loop-p.p ≡ c.args.to = omega arith in
     rw e at c.loop-p.invariant.1
 
-pub survey_container-returns-then-table-p-eq-STRING : goal.survey_container-returns-then-table-p-eq-STRING
-survey_container-returns-then-table-p-eq-STRING t c = c.survey_string.ensures
-
 pub survey_container-overflow_add-result : goal.survey_container-overflow_add-result
 survey_container-overflow_add-result t c = let s = inner_small t (goal.at.survey_container-overflow_add-result t c).After-size_length in omega arith
 

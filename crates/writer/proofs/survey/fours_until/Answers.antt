@@ -11,9 +11,3 @@ loop-q-preserved c =
     let z = four_none _ _ _ _ c.if-first-second-ne0.false in
     small_fours _ _ _ _ _ _ c.loop-q.invariant (omega arith) (c.strange.ensures.small z.0)
     (c.strange-in-loop-q.ensures.small z.1) (c.strange-in-loop-q-2.ensures.small z.2) (c.strange-in-loop-q-3.ensures.small z.3)
-
-pub returns-then-first-second-ne0 : goal.returns-then-first-second-ne0
-returns-then-first-second-ne0 c = c.loop-q.invariant
-
-pub returns : goal.returns
-returns c = c.loop-q.invariant

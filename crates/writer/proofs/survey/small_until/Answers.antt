@@ -11,6 +11,3 @@ loop-q-preserved c = small_on _ _ _ _ _ _ c.loop-q.invariant c.loop-q-test.true 
 
 pub returns : goal.returns
 returns c = record { small_rows = c.loop-q.invariant; stops = λ l s. omega (arith, c.loop-q-test.false) }
-
-pub loop-q-init : goal.loop-q-init
-loop-q-init c = c.fours_until-q.ensures
