@@ -141,11 +141,11 @@ soon() {
     done
 }
 
-# ran FILES: one of two runs ended well and named a crate.
+# ran FILES CRATE: one of two runs ended well, and named the crate: the first run names them all, one behind it what it built again.
 ran() {
     mv "$work/out.$1" "$work/out"
     mv "$work/err.$1" "$work/err"
-    [ "$ended" -eq 0 ] && cmp -s "$work/out" "$work/measure" && grep -qE '^list.sh: (format|sheetlist) proved \([0-9]+ s\)$' "$work/err"
+    [ "$ended" -eq 0 ] && cmp -s "$work/out" "$work/measure" && grep -qE "^list.sh: $2 proved \\([0-9]+ s\\)$" "$work/err"
 }
 
 # A first run says at once that it proves, and names the crate; two at once wait for each other.
@@ -164,11 +164,11 @@ tally 'the second of two at once tells that it waits' $?
 : >"$work/go"
 wait "$first"
 ended=$?
-ran 1
+ran 1 format
 tally 'the first of two at once' $?
 wait "$second"
 ended=$?
-ran 2
+ran 2 sheetlist
 tally 'the second of two at once' $?
 
 # The lock is for the build alone: a run that waits for its input keeps no other one waiting.
@@ -180,13 +180,13 @@ soon grep -qsE '^list.sh: sheetlist proved \([0-9]+ s\)$' "$work/err.1"
 sleep 0.5
 timeout 10 bash "$copy/list.sh" "$work/-" >"$work/out.2" 2>"$work/err.2" 5>&-
 ended=$?
-ran 2
+ran 2 sheetlist
 tally 'a run beside one that waits for its input' $?
 cat "$work/-" >&5
 exec 5>&-
 wait "$first"
 ended=$?
-ran 1
+ran 1 sheetlist
 tally 'a run that waited for its input' $?
 
 # What the program answers is not taken at its word.

@@ -6,6 +6,8 @@ use Prim.Native.Nat.{ℕ, zero, suc, ◌+◌, ◌-◌, ◌*◌, ◌/◌, ◌^◌
 use native.Mathlib.Omega.{arith}
 use lib.ListN.{length, get_or}
 use lib.Dec.{ltb}
+use mir.Syntax.{w64}
+use mir.Val.{Fits}
 use lib.Bits.{bit_or, bit_xor, xor_self}
 use native.Mathlib.Nat.{div-lt_iff_lt-mul}
 use Rattle.format.specs.Numbers.{signed}
@@ -102,6 +104,10 @@ pub record Survey (w : List ℕ) (u p e : ℕ) : Type 0 where
   pub some : p < e
   pub within : e ≤ rows_of w
   pub fits : u ≤ words_of w
+
+-- as the code is told it
+pub survey_at : (w : List ℕ) (u p e : ℕ) → Headed w → (p < e) × (e ≤ rows_of w) × (u ≤ words_of w) → ((i : ℕ) → Fits w64 (get_or w i 0)) → Survey w u p e
+survey_at w u p e h q b = record { header = h; bound = λ i. (b i).fits; some = q.0; within = q.1; fits = q.2 }
 
 -- ---- rows without elements
 module _ {w : List ℕ} {u p e : ℕ} (s : Survey w u p e) where

@@ -6,27 +6,33 @@ use Rattle.listing.proofs.ReadTexts.{long_text, long_table, shown, read_table, r
 use Rattle.listing.proofs.list.Goals as goal
 
 pub returns-then-message-gt32768 : goal.returns-then-message-gt32768
-returns-then-message-gt32768 c = let r = (let h = c.if-message-gt32768.true in
-    shown c.args.out.now (long_text c.args.message.now h) (c.refused.ensures.value, c.refused.ensures.out_after) (long_table c.args.message.now c.args.table.now h)) in record { value = r.0; out_after = r.1.0; table_after = r.1.1 }
+returns-then-message-gt32768 c =
+    let h = c.if-message-gt32768.true in
+    let r = shown c.args.out.now (long_text c.args.message.now h) (c.refused.ensures.value, c.refused.ensures.out_after) (long_table c.args.message.now c.args.table.now h) in
+    record { value = r.0; out_after = r.1.0; table_after = r.1.1 }
 
 pub accepted-requires : goal.accepted-requires
 accepted-requires c =
     let m = c.args.message.now in
-    let b = bytes_of m (λ i. omega (arith, c.shared_slice_known-1.given i)) in
+    let b = bytes_of m (λ i. omega (arith, c.type_inv.message i)) in
     let k = accepts m c.args.table.now c.if-message-gt32768.false c.requires.0 (read_told c.read-answer.result c.read-answer.new.table) c.read-answer.ensures b c.if-answer-eq0.true in
     (k.can, omega (arith, c.requires.1))
 
 pub returns-then-answer-eq0 : goal.returns-then-answer-eq0
-returns-then-answer-eq0 c = let r = (let m = c.args.message.now in
+returns-then-answer-eq0 c =
+    let m = c.args.message.now in
     let t = c.args.table.now in
     let h = c.if-message-gt32768.false in
-    let b = bytes_of m (λ i. omega (arith, c.shared_slice_known-1.given i)) in
+    let b = bytes_of m (λ i. omega (arith, c.type_inv.message i)) in
     let k = accepts m t h c.requires.0 (read_told c.read-answer.result c.read-answer.new.table) c.read-answer.ensures b c.if-answer-eq0.true in
-    shown c.args.out.now k.text (c.accepted.ensures.value, c.accepted.ensures.out_after) (read_table m t h c.requires.0 (read_told c.read-answer.result c.read-answer.new.table) c.read-answer.ensures)) in record { value = r.0; out_after = r.1.0; table_after = r.1.1 }
+    let r = shown c.args.out.now k.text (c.accepted.ensures.value, c.accepted.ensures.out_after) (read_table m t h c.requires.0 (read_told c.read-answer.result c.read-answer.new.table) c.read-answer.ensures) in
+    record { value = r.0; out_after = r.1.0; table_after = r.1.1 }
 
 pub returns : goal.returns
-returns c = let r = (let m = c.args.message.now in
+returns c =
+    let m = c.args.message.now in
     let t = c.args.table.now in
     let h = c.if-message-gt32768.false in
     let e = refused_text_lem m t h c.requires.0 (read_told c.read-answer.result c.read-answer.new.table) c.read-answer.ensures c.if-answer-eq0.false in
-    shown c.args.out.now e (c.refused-2.ensures.value, c.refused-2.ensures.out_after) (read_table m t h c.requires.0 (read_told c.read-answer.result c.read-answer.new.table) c.read-answer.ensures)) in record { value = r.0; out_after = r.1.0; table_after = r.1.1 }
+    let r = shown c.args.out.now e (c.refused-2.ensures.value, c.refused-2.ensures.out_after) (read_table m t h c.requires.0 (read_told c.read-answer.result c.read-answer.new.table) c.read-answer.ensures) in
+    record { value = r.0; out_after = r.1.0; table_after = r.1.1 }

@@ -1,6 +1,5 @@
 -- `listing::refused` meets its contract: the line in its five parts. Assumes nothing.
 use native.Mathlib.Omega.{arith}
-use lib.ListN.{length-set}
 use Rattle.listing.specs.Lines.{refused_text}
 use Rattle.listing.proofs.WholeText.{over_front}
 use Rattle.listing.proofs.Putting.{then, byte}
@@ -23,9 +22,8 @@ bounds-out-n c =
 
 pub returns : goal.returns
 unfolding refused_text
-returns c = let r = (let n = count_most 19 c.args.number (omega arith) in
+returns c =
+    let n = count_most 19 c.args.number (omega arith) in
     let p = count_most 19 c.args.place (omega arith) in
-    over_front (then c.put_text-n.ensures (then c.put_decimal-n.ensures (then c.put_text-n-2.ensures (then c.put_decimal-n-2.ensures (byte c.put_decimal-n-2.result 0x0a c.put_decimal-n-2.new.out (omega arith))))))) in record { value = r.0; out_after = r.1 }
-
-pub shape_of-out : goal.shape_of-out
-shape_of-out c = simp length-set (omega arith)
+    let r = over_front (then c.put_text-n.ensures (then c.put_decimal-n.ensures (then c.put_text-n-2.ensures (then c.put_decimal-n-2.ensures (byte c.put_decimal-n-2.result 0x0a c.put_decimal-n-2.new.out (omega arith)))))) in
+    record { value = r.0; out_after = r.1 }

@@ -11,7 +11,7 @@ use Rattle.measure.proofs.read.Goals.{After-read-r}
 
 -- what is lent as a message is bytes
 bytes : (c : After-read-r) → Bytes c.args.message.now
-bytes c = bytes_of c.args.message.now (λ i. omega (arith, c.shared_slice_known-1.given i))
+bytes c = bytes_of c.args.message.now (λ i. omega (arith, c.type_inv.message i))
 
 pub returns-then-r-ne0 : goal.returns-then-r-ne0
 returns-then-r-ne0 c =

@@ -3,7 +3,6 @@ use mathlib.Core.Path.{refl, sym, ◌∙◌}
 use native.Mathlib.Omega.{arith}
 use Rattle.format.proofs.SignedLaws.{handed_word}
 use Rattle.measure.proofs.SheetCases.{out_of_range, sheet_put}
-use Rattle.measure.proofs.SheetWritten.{unit_refused}
 use Rattle.measure.proofs.write.Goals as goal
 
 pub returns-then-not-all_fair : goal.returns-then-not-all_fair

@@ -1,12 +1,7 @@
 -- `compare::walk::put_entry` meets its contract. Assumes nothing.
 use Prim.Native.Nat.{◌*◌}
-use native.Mathlib.Omega.{arith}
-use lib.ListN.{length-set}
 use Rattle.format.proofs.Over.{set_two}
 use Rattle.compare.proofs.walk.put_entry.Goals as goal
 
 pub returns : goal.returns
 returns c = set_two (2 * c.args.n) c.args.list.now c.args.p c.args.q c.requires
-
-pub bounds-list-n-2 : goal.bounds-list-n-2
-bounds-list-n-2 c = simp length-set (omega arith)

@@ -16,14 +16,8 @@ pub returns-then-i-c : goal.returns-then-i-c
 returns-then-i-c c =
     low_rest _ _ _ _ _ _ _ (omega arith) c.low_some.ensures c.loop-i.invariant.2 c.put_some-then-i-c.ensures
 
-pub put_some-requires : goal.put_some-requires
-put_some-requires c = (omega arith, omega arith, omega arith)
-
 pub low_some-requires : goal.low_some-requires
 low_some-requires c = (omega arith, omega arith, simp (length-take, length-drop) (omega arith))
-
-pub put_some-requires-then-i-c : goal.put_some-requires-then-i-c
-put_some-requires-then-i-c c = (omega arith, omega arith, omega arith)
 
 pub returns-else-i-c : goal.returns-else-i-c
 returns-else-i-c c = low_end _ _ c.loop-i.i _ _ (omega arith) c.loop-i.invariant.2

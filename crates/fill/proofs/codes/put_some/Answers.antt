@@ -1,5 +1,5 @@
 -- Codes go into a new word, into the one that is begun, or into that and the next. Assumes nothing.
-use Rattle.std.proofs.Common.{refl, arith, length-set}
+use Rattle.std.proofs.Common.{refl, arith}
 use Rattle.fill.proofs.SomeCodes.{put_new, put_old, put_two}
 use Rattle.fill.proofs.codes.put_some.Goals as goal
 
@@ -17,6 +17,3 @@ pub returns-else-r-k-gt64 : goal.returns-else-r-k-gt64
 returns-else-r-k-gt64 c =
     let p = c.requires in
     put_old _ _ _ _ p.0 p.1 p.2 (omega arith) (omega arith) _ c.wrapping_add_u64.ensures.value
-
-pub bounds-table-j-then-r-k-gt64 : goal.bounds-table-j-then-r-k-gt64
-bounds-table-j-then-r-k-gt64 c = simp length-set (omega arith)

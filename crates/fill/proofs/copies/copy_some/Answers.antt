@@ -1,5 +1,5 @@
 -- The loop's invariant: the rows so far stand again, rebased. Assumes nothing.
-use Rattle.std.proofs.Common.{refl, arith, length-set}
+use Rattle.std.proofs.Common.{refl, arith}
 use Rattle.fill.proofs.Doubling.{rebasing_start, rebasing_step, rebasing_end}
 use Rattle.fill.proofs.copies.copy_some.Goals as goal
 
@@ -10,12 +10,6 @@ loop-i-preserved c =
 
 pub loop-i-init : goal.loop-i-init
 loop-i-init c = rebasing_start _ _ _ _
-
-pub bounds-table-at-in-loop-i : goal.bounds-table-at-in-loop-i
-bounds-table-at-in-loop-i c = simp length-set (omega arith)
-
-pub bounds-table-at-in-loop-i-2 : goal.bounds-table-at-in-loop-i-2
-bounds-table-at-in-loop-i-2 c = simp length-set (omega arith)
 
 pub returns : goal.returns
 returns c = rebasing_end _ _ _ _ _ _ (omega arith) c.loop-i.invariant

@@ -1,6 +1,5 @@
 -- `listing::rows::put_row` meets its contract: depth, kind, value and newline, one behind the other. Assumes nothing.
 use native.Mathlib.Omega.{arith}
-use lib.ListN.{length-set}
 use Rattle.listing.specs.RowTexts.{row_text}
 use Rattle.listing.proofs.Putting.{then, byte}
 use Rattle.listing.proofs.RowLines.{row_length}
@@ -27,6 +26,3 @@ unfolding row_text
 returns c =
     let h = row_length c.args.table.now c.args.p c.args.depth in
     then c.put_decimal-n.ensures (then c.put_word-n.ensures (then c.put_value-n.ensures (byte c.put_value-n.result 0x0a c.put_value-n.new.out (omega (arith, c.requires.p_in_bounds)))))
-
-pub shape_of-out : goal.shape_of-out
-shape_of-out c = simp length-set (omega arith)

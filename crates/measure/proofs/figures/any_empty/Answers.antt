@@ -1,5 +1,4 @@
 -- `measure::figures::any_empty` meets its contract. Assumes nothing.
-use native.Mathlib.Omega.{arith}
 use Rattle.measure.proofs.RowTests.{first_empty, second_empty, third_empty}
 use Rattle.measure.proofs.figures.any_empty.Goals as goal
 

@@ -1,6 +1,5 @@
 -- `measure::rows::are_figures` meets its contract. Assumes nothing.
 use mathlib.Core.Path.{ap, ◌∙◌}
-use native.Mathlib.Omega.{arith}
 use Rattle.measure.specs.SheetRows.{is_figure, are_figures}
 use Rattle.measure.proofs.RowTests.{test_fails, test_holds}
 use Rattle.measure.proofs.rows.are_figures.Goals as goal

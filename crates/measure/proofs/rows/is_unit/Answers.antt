@@ -1,6 +1,5 @@
 -- `measure::rows::is_unit` meets its contract. Assumes nothing.
 use mathlib.Core.Path.{ap}
-use native.Mathlib.Omega.{arith}
 use lib.Dec.{ltb}
 use Rattle.measure.specs.SheetRows.{is_unit}
 use Rattle.measure.proofs.RowTests.{eq_fails, eq_holds}

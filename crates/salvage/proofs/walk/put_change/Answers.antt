@@ -1,15 +1,7 @@
 -- `walk::put_change` meets its contract. Assumes nothing.
 use Prim.Native.Nat.{◌*◌}
-use native.Mathlib.Omega.{arith}
-use lib.ListN.{length-set}
 use Rattle.format.proofs.Over.{set_three}
 use Rattle.salvage.proofs.walk.put_change.Goals as goal
 
 pub returns : goal.returns
 returns c = set_three (3 * c.args.k) c.args.list.now c.args.place c.args.bytes c.args.number c.requires
-
-pub bounds-list-k-2 : goal.bounds-list-k-2
-bounds-list-k-2 c = simp length-set (omega arith)
-
-pub bounds-list-k-3 : goal.bounds-list-k-3
-bounds-list-k-3 c = simp length-set (omega arith)

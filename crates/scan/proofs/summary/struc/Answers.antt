@@ -1,6 +1,5 @@
 -- `struc` meets its contract: what it is to an EDT, and whether it is a string, is by the kinds met. Assumes nothing.
 use mathlib.Core.Path.{sym, ◌∙◌}
-use native.Mathlib.Omega.{arith}
 use Rattle.format.proofs.Choices.{if_eq_yes, if_eq_no}
 use Rattle.scan.specs.Sums.{struc_of}
 use Rattle.scan.proofs.summary.struc.Goals as goal

@@ -21,7 +21,7 @@ loop-p-init c = (omega arith, sym c.lands.ensures ∙ c.if-not-lands.false, (λ 
 pub loop-p-preserved-then-next-p : goal.loop-p-preserved-then-next-p
 loop-p-preserved-then-next-p c =
     let r = c.ints_until-next.ensures in
-    (r.within, c.loop-p.invariant.1, ints_ok _ _ _ _ _ (λ k. omega (arith, c.shared_slice_known-1.given k)) r c.loop-p.invariant.2, c.loop-p.invariant.3 ∙ sym (ints_data _ _ _ _ r), c.loop-p.invariant.4)
+    (r.within, c.loop-p.invariant.1, ints_ok _ _ _ _ _ (λ k. omega (arith, c.type_inv.table k)) r c.loop-p.invariant.2, c.loop-p.invariant.3 ∙ sym (ints_data _ _ _ _ r), c.loop-p.invariant.4)
 
 pub judge_row-one-requires : goal.judge_row-one-requires
 judge_row-one-requires c =
@@ -48,7 +48,7 @@ loop-p-preserved c =
 pub returns : goal.returns
 returns c =
     let e : c.loop-p.p ≡ c.args.rows = omega arith in
-    formed_end c.args.table.now c.args.rows c.args.words c.loop-p.base c.requires (λ i. omega (arith, c.shared_slice_known-1.given i))
+    formed_end c.args.table.now c.args.rows c.args.words c.loop-p.base c.requires (λ i. omega (arith, c.type_inv.table i))
     c.loop-p.invariant.1 (λ i h. c.loop-p.invariant.2 i (omega arith)) (c.loop-p.invariant.3 ∙ ap (data_to _) e)
 
 pub ints_until-next-requires : goal.ints_until-next-requires

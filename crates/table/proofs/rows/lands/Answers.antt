@@ -1,17 +1,11 @@
 -- `table::rows::lands` meets its contract: what is left to hop, from where it has come, lands exactly where the whole does. Assumes nothing.
 use native.Mathlib.Omega.{arith}
-use mathlib.Core.Path.{refl, sym, ◌∙◌}
+use mathlib.Core.Path.{sym, ◌∙◌}
 use Rattle.table.proofs.RowLaws.{lands_end, lands_out, lands_leaf, lands_beyond, lands_group}
 use Rattle.table.proofs.rows.lands.Goals as goal
 
-pub loop-left-init : goal.loop-left-init
-loop-left-init c = (omega arith, refl)
-
 pub returns-then-p-to : goal.returns-then-p-to
 returns-then-p-to c = sym (c.loop-left.invariant.1 ∙ lands_out _ _ _ _ c.loop-left-test.true c.if-p-to.true)
-
-pub single-requires : goal.single-requires
-single-requires c = tt
 
 pub loop-left-preserved-then-single : goal.loop-left-preserved-then-single
 loop-left-preserved-then-single c =

@@ -12,11 +12,8 @@ loop-i-init c = (omega arith, omega arith, joined_start _ _ _)
 
 pub loop-i-preserved : goal.loop-i-preserved
 loop-i-preserved c =
-    let word : get_or c.args.table.now (c.args.from + c.loop-i.i) 0 < 2 ^ 64 = omega (arith, c.shared_slice_known-in-loop-i-1.given (c.args.from + c.loop-i.i)) in
+    let word : get_or c.args.table.now (c.args.from + c.loop-i.i) 0 < 2 ^ 64 = omega (arith, c.type_inv.table (c.args.from + c.loop-i.i)) in
     (omega arith, or_lt 64 _ _ c.loop-i.invariant.1 word, c.loop-i.invariant.2 ∙ joined_on _ _ _ _ _ (omega arith) c.loop-i.invariant.1 word)
-
-pub low_word-requires : goal.low_word-requires
-low_word-requires c = tt
 
 pub returns : goal.returns
 returns c = c.low_word.ensures ∙ sym (c.loop-i.invariant.2 ∙ joined_end _ _ _ _ (omega arith))

@@ -7,9 +7,6 @@ use Rattle.table.proofs.words.low_words.Goals as goal
 pub loop-i-init : goal.loop-i-init
 loop-i-init c = (omega arith, low_start _ _ _)
 
-pub low_word-requires : goal.low_word-requires
-low_word-requires c = tt
-
 pub returns-then-not-low_word : goal.returns-then-not-low_word
 returns-then-not-low_word c = sym (c.loop-i.invariant.1 ∙ low_no _ _ _ (omega arith) (sym c.low_word.ensures ∙ c.if-not-low_word.true))
 

@@ -13,24 +13,15 @@ use Rattle.wire.proofs.bits.sbits_of.Goals as goal
 pub overflow_sub-result : goal.overflow_sub-result
 overflow_sub-result c =
     let b = get_or c.args.s.now 0 0 in
-    let l : b < 256 = omega (arith, c.shared_slice_known-2-1.given 0) in
+    let l : b < 256 = omega (arith, c.type_inv.s 0) in
     omega (arith, c.ones_of-zeros.ensures, zeros_ones b l, zeros_few b l c.if-first-eq0.false)
 
 pub returns : goal.returns
 returns c = λ z.
     let s = c.args.s.now in
     let k : c.args.b / 8 ≡ 0x1e = eqb-true _ _ (sym c.is_sbitstr.ensures ∙ c.if-not-is_sbitstr.false) in
-    let l : get_or s 0 0 < 256 = omega (arith, c.shared_slice_known-2-1.given 0) in
+    let l : get_or s 0 0 < 256 = omega (arith, c.type_inv.s 0) in
     let f = c.following_of-k.ensures.0 in
     let e = c.ones_of-zeros.ensures ∙ zeros_ones (get_or s 0 0) l in
-    let m = bytes_of s (λ i. omega (arith, c.shared_slice_known-1.given i)) in
+    let m = bytes_of s (λ i. omega (arith, c.type_inv.s i)) in
     bits_at c.args.b _ s m (omega arith) (omega arith) (omega arith) c.if-first-eq0.false (omega arith)
-
-pub returns-then-not-is_sbitstr : goal.returns-then-not-is_sbitstr
-returns-then-not-is_sbitstr c = λ z. absurd (omega arith)
-
-pub returns-then-s-k : goal.returns-then-s-k
-returns-then-s-k c = λ z. absurd (omega arith)
-
-pub returns-then-first-eq0 : goal.returns-then-first-eq0
-returns-then-first-eq0 c = λ z. absurd (omega arith)

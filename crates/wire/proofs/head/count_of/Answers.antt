@@ -1,5 +1,6 @@
 -- `head::count_of` meets its contract. Assumes nothing.
 use native.Mathlib.Omega.{arith}
+use borrow.Author.Rules.{rules}
 use Prim.Native.Nat.{◌+◌}
 use mathlib.Core.Path.{◌≡◌, ap, ◌∙◌, subst}
 use lib.Signed.{mag}
@@ -26,13 +27,13 @@ further-requires c =
 
 pub overflow_cast-result : goal.overflow_cast-result
 overflow_cast-result c =
-    let f : SFits w64 c.in-Found.z = record { sfits = c.in-Found.known_told-in-Found-1-own.given.0.1 } in
+    let f : SFits w64 c.in-Found.z = search rules in
     cast_mag _ _ (kept c.in-Found.z f c.if-negative.false) f.sfits
 
 pub returns-then-negative : goal.returns-then-negative
 returns-then-negative c =
     let r = subst (LeadingIs c.args.c.now) c.in-Found.is c.leading_of-l.ensures in
-    let f : SFits w64 c.in-Found.z = record { sfits = c.in-Found.known_told-in-Found-1-own.given.0.1 } in
+    let f : SFits w64 c.in-Found.z = search rules in
     count_negative c.args.why c.args.h (mag c.in-Found.z) c.in-Found.u c.args.c.now c.here-then-negative.result c.here-then-negative.ensures
     (r.0 ∙ ap (λ z. found z c.in-Found.u) (found_negative c.in-Found.z f c.if-negative.true))
 
@@ -49,6 +50,6 @@ returns-in-Cut c =
 pub returns-else-negative : goal.returns-else-negative
 returns-else-negative c =
     let r = subst (LeadingIs c.args.c.now) c.in-Found.is c.leading_of-l.ensures in
-    let f : SFits w64 c.in-Found.z = record { sfits = c.in-Found.known_told-in-Found-1-own.given.0.1 } in
+    let f : SFits w64 c.in-Found.z = search rules in
     let n = found_natural c.in-Found.z f c.if-negative.false in
     count_right c.args.why c.args.h _ c.in-Found.u c.args.c.now (r.0 ∙ ap (λ z. found z c.in-Found.u) n.0) n.1 r.1

@@ -25,15 +25,15 @@ returns-then-first-eq0 c =
 pub overflow_sub-n-2 : goal.overflow_sub-n-2
 overflow_sub-n-2 c =
     let b = get_or c.args.s.now 0 0 in
-    let l : b < 256 = omega (arith, c.shared_slice_known-2-1.given 0) in
+    let l : b < 256 = omega (arith, c.type_inv.s 0) in
     omega (arith, c.ones_of-zeros.ensures, zeros_ones b l, zeros_few b l c.if-first-eq0.false)
 
 pub returns : goal.returns
 returns c =
     let s = c.args.s.now in
     let k = c.following_of-k in
-    let l : get_or s 0 0 < 256 = omega (arith, c.shared_slice_known-2-1.given 0) in
+    let l : get_or s 0 0 < 256 = omega (arith, c.type_inv.s 0) in
     sbitstr_sbits c.args.depth c.args.b k.result _ c.number.result c.unmarked.result s
-    (bytes_of s (λ i. omega (arith, c.shared_slice_known-1.given i))) k.ensures.0 (omega arith) c.if-first-eq0.false
+    (bytes_of s (λ i. omega (arith, c.type_inv.s i))) k.ensures.0 (omega arith) c.if-first-eq0.false
     (ap (λ n. 8 * k.result - 1 - n) (c.ones_of-zeros.ensures ∙ zeros_ones (get_or s 0 0) l))
     c.number.ensures.0 c.unmarked.ensures.0 c.unmarked.ensures.1

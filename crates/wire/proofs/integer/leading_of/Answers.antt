@@ -31,4 +31,4 @@ returns-in_default c =
     let i = c.unpadded-i.result in
     let k = c.class_of-class in
     leading_other s i (get_or s i 0) k.result (omega arith) refl k.ensures (λ e. c.in_default.not-Sinteger (sym e)) (λ e. c.in_default.not-Linteger (sym e))
-    (omega (arith, c.shared_slice_known-1.given i)) c.unpadded-i.ensures
+    (omega (arith, c.type_inv.s i)) c.unpadded-i.ensures

@@ -5,5 +5,5 @@ use Rattle.wire.proofs.integer.number.Goals as goal
 
 pub returns-then-s-ge8 : goal.returns-then-s-ge8
 returns-then-s-ge8 c =
-    number_high c.args.s.now c.args.k c.word_at.result (λ i. omega (arith, c.shared_slice_known-1.given i)) (omega arith) (omega arith) (omega arith)
+    number_high c.args.s.now c.args.k c.word_at.result (λ i. omega (arith, c.type_inv.s i)) (omega arith) (omega arith) (omega arith)
     c.word_at.ensures

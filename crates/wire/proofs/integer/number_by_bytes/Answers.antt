@@ -34,6 +34,3 @@ pub returns : goal.returns
 returns c =
     let e : c.loop-i.i ≡ c.args.k = omega arith in
     (rw e at c.loop-i.invariant.2, rw e at c.loop-i.invariant.1)
-
-pub wide-requires : goal.wide-requires
-wide-requires c = tt

@@ -11,5 +11,5 @@ loop-e-init c = ranged_none _ _ _ c.args.s.now c.requires
 pub loop-e-preserved : goal.loop-e-preserved
 loop-e-preserved c =
     let s = c.args.s.now in
-    let m = all_ones s c.loop-e.e (λ i. omega (arith, c.shared_slice_known-1.given i)) (omega arith) in
+    let m = all_ones s c.loop-e.e (λ i. omega (arith, c.type_inv.s i)) (omega arith) in
     ranged_join 0xff 0xff _ c.loop-e.e (c.loop-e.e + 8) s c.loop-e.invariant (omega arith) (omega arith) m

@@ -8,18 +8,3 @@ pub returns : goal.returns
 returns c = λ z.
     let w = one_of _ (sym c.has_elements.ensures ∙ c.if-not-has_elements.false) in
     short_at c.args.depth c.args.b c.args.s.now _ w.0 w.1 w.2 (omega arith) (omega arith) (omega arith) (omega arith) (omega arith)
-
-pub returns-then-not-has_elements : goal.returns-then-not-has_elements
-returns-then-not-has_elements c = λ z. absurd (omega arith)
-
-pub returns-then-depth-ge-DEEPEST : goal.returns-then-depth-ge-DEEPEST
-returns-then-depth-ge-DEEPEST c = λ z. absurd (omega arith)
-
-pub returns-then-s-eq0 : goal.returns-then-s-eq0
-returns-then-s-eq0 c = λ z. absurd (omega arith)
-
-pub returns-then-n-ge128 : goal.returns-then-n-ge128
-returns-then-n-ge128 c = λ z. absurd (omega arith)
-
-pub returns-then-s-size : goal.returns-then-s-size
-returns-then-s-size c = λ z. absurd (omega arith)

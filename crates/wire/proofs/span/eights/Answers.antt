@@ -11,5 +11,5 @@ loop-e-init c = ranged_none _ _ _ c.args.s.now c.requires
 pub loop-e-preserved : goal.loop-e-preserved
 loop-e-preserved c =
     let s = c.args.s.now in
-    let m = all_low_lem s c.loop-e.e _ (λ i. omega (arith, c.shared_slice_known-1.given i)) (omega arith) c.word_at.ensures c.if-word_at-ne0.false in
+    let m = all_low_lem s c.loop-e.e _ (λ i. omega (arith, c.type_inv.s i)) (omega arith) c.word_at.ensures c.if-word_at-ne0.false in
     ranged_join 0 0x7f _ c.loop-e.e (c.loop-e.e + 8) s c.loop-e.invariant (omega arith) (omega arith) m

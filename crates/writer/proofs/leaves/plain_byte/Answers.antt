@@ -1,6 +1,5 @@
 -- `writer::leaves::plain_byte` meets its contract. Assumes nothing.
 use mathlib.Core.Path.{sym, ◌∙◌}
-use native.Mathlib.Omega.{arith}
 use Rattle.format.proofs.Choices.{if_eq_yes, if_eq_no}
 use Rattle.writer.specs.Forms.{plain_byte}
 use Rattle.writer.proofs.leaves.plain_byte.Goals as goal

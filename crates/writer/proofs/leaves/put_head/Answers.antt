@@ -21,9 +21,3 @@ unfolding over_at
 returns c =
     lent_next (c.args.byte ∷ []) (normal_size c.args.size) c.args.out.now (set c.args.out.now 0 c.args.byte) c.put_size.new.out 1 refl
     (set_at 0 c.args.byte c.args.out.now (omega arith)) c.put_size.ensures
-
-pub slice_bounds-put_size-count : goal.slice_bounds-put_size-count
-slice_bounds-put_size-count c = simp length-set (omega arith)
-
-pub slice_bounds-put_size-start : goal.slice_bounds-put_size-start
-slice_bounds-put_size-start c = simp length-set (omega arith)

@@ -12,23 +12,23 @@ use Rattle.table.proofs.RowData.{BitsRow, bits_at}
 use Rattle.writer.proofs.LeafForms.{numbered_size, lbits_form, lbits_length, int_most}
 use Rattle.format.proofs.Over.{part_length, lent_next}
 use Rattle.writer.proofs.leaves.put_lbits.Goals as goal
-use Rattle.writer.proofs.leaves.put_lbits.Goals.{After-int_length, Start}
+use Rattle.writer.proofs.leaves.put_lbits.Goals.{After-int_length}
 
-row : (c : Start) → BitsRow c.args.table.now c.args.p
+row : (c : After-int_length) → BitsRow c.args.table.now c.args.p
 row c = bits_at _ _ c.requires.leaf_at.0 c.requires.leaf_at.1
 
 -- the size of what follows the head, and the whole of it
 size_is : (c : After-int_length)
     → let w = c.args.table.now in c.int_length.result + (a_at w c.args.p + 7) / 8 ≡ length (numbered w (b_at w c.args.p) (a_at w c.args.p))
-size_is c = numbered_size _ _ ((bits_at _ _ c.requires.leaf_at.0 c.requires.leaf_at.1)) _ c.int_length.ensures
+size_is c = numbered_size _ _ (row c) _ c.int_length.ensures
 
 whole : (c : After-int_length)
     → let n = c.int_length.result + (a_at c.args.table.now c.args.p + 7) / 8 in 1 + length (normal_size n) + n ≤ length c.args.out.now
-whole c = omega (arith, c.requires.p_in_bounds, lbits_length _ _ ((bits_at _ _ c.requires.leaf_at.0 c.requires.leaf_at.1)) _ c.requires.leaf_at.2 (size_is c))
+whole c = omega (arith, c.requires.p_in_bounds, lbits_length _ _ (row c) _ c.requires.leaf_at.2 (size_is c))
 
 pub overflow_add-size-2 : goal.overflow_add-size-2
 overflow_add-size-2 c =
-    let r = (row (goal.at.overflow_add-size-2 c).Start).kept.small in
+    let r = (row (goal.at.overflow_add-size-2 c).After-int_length).kept.small in
     omega (arith, c.int_length.ensures, int_most (a_at c.args.table.now c.args.p) (omega arith))
 
 pub slice_bounds-put_numbered-count : goal.slice_bounds-put_numbered-count
@@ -48,7 +48,7 @@ overflow_add-result c = omega (arith, whole (goal.at.overflow_add-result c).Afte
 pub returns : goal.returns
 returns c =
     let w = c.args.table.now in
-    let r = row (goal.at.returns c).Start in
+    let r = row (goal.at.returns c).After-int_length in
     let g = c.requires.leaf_at.2 in
     let n = c.int_length.result + (a_at w c.args.p + 7) / 8 in
     let e = size_is (goal.at.returns c).After-int_length in
@@ -60,7 +60,7 @@ returns c =
     }
 
 pub overflow_add-size : goal.overflow_add-size
-overflow_add-size c = let r = (row (goal.at.overflow_add-size c).Start).kept.small in omega arith
+overflow_add-size c = let r = (row (goal.at.overflow_add-size c).After-int_length).kept.small in omega arith
 
 pub put_head-requires : goal.put_head-requires
 put_head-requires c = omega (arith, whole (goal.at.put_head-requires c).After-int_length)

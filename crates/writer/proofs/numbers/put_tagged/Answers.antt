@@ -22,9 +22,3 @@ unfolding over_at
 returns c =
     lent_next (c.args.tag ∷ []) (be c.args.k (c.args.n % 256 ^ c.args.k)) c.args.out.now (set c.args.out.now 0 c.args.tag) c.put_low.new.out 1 refl
     (set_at 0 c.args.tag c.args.out.now (omega arith)) c.put_low.ensures
-
-pub slice_bounds-put_low-count : goal.slice_bounds-put_low-count
-slice_bounds-put_low-count c = simp length-set (omega arith)
-
-pub slice_bounds-put_low-start : goal.slice_bounds-put_low-start
-slice_bounds-put_low-start c = simp length-set (omega arith)

@@ -11,7 +11,7 @@ use Rattle.writer.proofs.WriteLaws.{going_starts, going_ends, LeafTurn, TextTurn
 use Rattle.writer.proofs.StretchLaws.{char_byte, int_byte, char_code, going_rows, going_singles}
 use Rattle.writer.proofs.ContainerLaws.{HeadRoom, head_room, contents_start, contents_writable, container_done}
 use Rattle.writer.proofs.put.+write_container_write_run.Goals as goal
-use Rattle.writer.proofs.put.+write_container_write_run.Goals.{write_container-After-size_length-least, write_container-After-size_length-used, write_container-After-write_run-size, write_run-Else-kind-eq-STRING, write_run-Then-kind-eq-STRING, write_run-Then-kind-lt-STRUC}
+use Rattle.writer.proofs.put.+write_container_write_run.Goals.{write_container-After-size_length-least, write_container-After-write_run-size, write_run-Else-kind-eq-STRING, write_run-Then-kind-eq-STRING, write_run-Then-kind-lt-STRUC}
 
 -- the contents have room behind a type-byte and the fewest size bytes
 start_in : (t : ℕ) (c : write_container-After-size_length-least t)
@@ -23,17 +23,12 @@ came_back : (t : ℕ) (c : write_container-After-write_run-size t)
     → length (take (1 + c.size_length-least.result) c.args.out.now ++ (c.write_run-size.new.out
     ++ drop (length c.args.out.now - (1 + c.size_length-least.result)) (drop (1 + c.size_length-least.result) c.args.out.now))) ≡ length c.args.out.now
 came_back t c =
-    back_length (1 + c.size_length-least.result) c.args.out.now c.write_run-size.new.out ((contents_start _ _ _ _ _ _ c.requires c.size_length-least.ensures)) c.write_run-size.auto.out
+    back_length (1 + c.size_length-least.result) c.args.out.now c.write_run-size.new.out (contents_start _ _ _ _ _ _ c.requires c.size_length-least.ensures) c.write_run-size.auto.out
 
 -- the bytes that their size takes
 sized : (t : ℕ) (c : write_container-After-write_run-size t) (h : ℕ) → h ≡ length (normal_size c.write_run-size.result)
     → HeadRoom c.args.table.now c.args.from c.args.to (length c.args.out.now) c.size_length-least.result c.write_run-size.result h
 sized t c h e = head_room _ _ _ _ _ _ c.requires c.size_length-least.ensures _ _ c.write_run-size.ensures.value e
-
--- all of it fits
-written_in : (t : ℕ) (c : write_container-After-size_length-used t)
-    → 1 + c.size_length-used.result + c.write_run-size.result ≤ length c.args.out.now
-written_in t c = (head_room _ _ _ _ _ _ c.requires c.size_length-least.ensures _ _ c.write_run-size.ensures.value c.size_length-used.ensures).room
 
 -- the next item is a leaf
 leaf_here : (t : ℕ) (c : write_run-Then-kind-lt-STRUC t)
@@ -49,10 +44,6 @@ text_here t c = text_turn c.loop-p.invariant c.loop-p-test.true c.if-kind-eq-STR
 group_here : (t : ℕ) (c : write_run-Else-kind-eq-STRING t)
     → GroupTurn c.args.table.now c.loop-p.p c.args.to c.args.depth c.loop-p.n c.loop-p.out
 group_here t c = group_turn c.loop-p.invariant c.loop-p-test.true c.if-kind-lt-STRUC.false c.if-kind-eq-STRING.false
-
--- ---- write_container
-pub write_container-head_byte-byte-requires : goal.write_container-head_byte-byte-requires
-write_container-head_byte-byte-requires t c = tt
 
 pub write_container-write_run-size-requires : goal.write_container-write_run-size-requires
 write_container-write_run-size-requires t c =
@@ -73,18 +64,20 @@ write_container-put_head-requires t c =
     omega (arith, r.room, came_back t (goal.at.write_container-put_head-requires t c).After-write_run-size, c.shift.auto.out)
 
 pub write_container-overflow_add-result : goal.write_container-overflow_add-result
-write_container-overflow_add-result t c = omega (arith, written_in t (goal.at.write_container-overflow_add-result t c).After-size_length-used)
+write_container-overflow_add-result t c = omega (arith, (sized t (goal.at.write_container-overflow_add-result t c).After-write_run-size _ c.size_length-used.ensures).room)
 
 pub write_container-overflow_add-result-2 : goal.write_container-overflow_add-result-2
-write_container-overflow_add-result-2 t c = omega (arith, written_in t (goal.at.write_container-overflow_add-result-2 t c).After-size_length-used)
+write_container-overflow_add-result-2 t c = omega (arith, (sized t (goal.at.write_container-overflow_add-result-2 t c).After-write_run-size _ c.size_length-used.ensures).room)
 
 pub write_container-shape_of-out : goal.write_container-shape_of-out
 write_container-shape_of-out t c =
     c.put_head.auto.out ∙ c.shift.auto.out ∙ came_back t (goal.at.write_container-shape_of-out t c).After-write_run-size
 
 pub write_container-returns : goal.write_container-returns
-write_container-returns t c = let r = (container_done _ _ _ _ c.args.out.now _ c.requires c.size_length-least.ensures _ _ _ _ c.write_run-size.new.out _ _
-    c.write_run-size.ensures.value c.size_length-used.ensures c.head_byte-byte.ensures c.write_run-size.ensures.out_after c.shift.ensures c.put_head.ensures) in record { value = r.0; out_after = r.1 }
+write_container-returns t c =
+    let r = container_done _ _ _ _ c.args.out.now _ c.requires c.size_length-least.ensures _ _ _ _ c.write_run-size.new.out _ _
+    c.write_run-size.ensures.value c.size_length-used.ensures c.head_byte-byte.ensures c.write_run-size.ensures.out_after c.shift.ensures c.put_head.ensures in
+    record { value = r.0; out_after = r.1 }
 
 -- ---- write_run
 pub write_run-loop-p-init : goal.write_run-loop-p-init
@@ -164,7 +157,9 @@ write_run-loop-p-preserved t c =
     going_group c.loop-p.invariant (group_here t (goal.at.write_run-loop-p-preserved t c).Else-kind-eq-STRING) c.write_container-bytes.result c.write_container-bytes.new.out c.write_container-bytes.ensures.value c.write_container-bytes.auto.out c.write_container-bytes.ensures.out_after
 
 pub write_run-returns : goal.write_run-returns
-write_run-returns t c = let r = (going_ends _ _ _ _ _ _ _ _ c.loop-p.invariant c.loop-p-test.false) in record { value = r.0; out_after = r.1 }
+write_run-returns t c =
+    let r = going_ends _ _ _ _ _ _ _ _ c.loop-p.invariant c.loop-p-test.false in
+    record { value = r.0; out_after = r.1 }
 
 pub write_container-overflow_sub-to : goal.write_container-overflow_sub-to
 write_container-overflow_sub-to t c = let n = c.requires.run.stands.number in omega arith
