@@ -1,12 +1,14 @@
 -- From two tables to comparing's answer: not a table, as many outermost items or not, a list that is too short. Assumes nothing.
 use mathlib.Core.Path.{◌≡◌, refl, sym, ap, ap₂, ◌∙◌}
 use mathlib.Core.Logic.{◌≢◌}
-use Prim.Native.Nat.{ℕ, ◌*◌, ◌/◌, ◌≤◌, ◌<◌}
+use Prim.Native.Nat.{ℕ, ◌+◌, ◌*◌, ◌/◌, ◌≤◌, ◌<◌}
 use native.Mathlib.Omega.{arith}
 use mathlib.Core.Bool.{true, false, false≢true}
 use mathlib.Core.Option.{Option, none, some}
 use mathlib.Core.List.{List, [], ◌∷◌}
-use lib.ListN.{length, get_or}
+use lib.ListN.{length, length-map, get_or}
+use Rattle.std.specs.Prelude.{map}
+use Rattle.compare.specs.declared.walk.Pair.{Pair}
 use Rattle.format.specs.Refusals.{not_a_table, list_short}
 use Rattle.format.specs.Answers.{over}
 use Rattle.format.specs.Lent.{over_at}
@@ -18,8 +20,9 @@ use Rattle.table.specs.Rows.{rows_of}
 use Rattle.table.specs.InOrder.{is_some}
 use Rattle.table.proofs.Whole.{whole}
 use Rattle.compare.specs.Differences.{difference, changes, entries, answered, differing, comparing_of, comparing}
-use Rattle.compare.specs.Walks.{changes_for, changes_of, Walk, BothTables}
-use Rattle.compare.proofs.ListLaws.{no_length}
+use Rattle.compare.specs.Walks.{changes_for, changes_of, changes_left, pair_of, Walk, BothTables}
+use Rattle.compare.proofs.ListLaws.{no_length, rest_is}
+use Rattle.compare.proofs.DifferenceLaws.{changes_few}
 
 -- ---- both are tables, or one is none
 its_items : (w : List ℕ) → true ≡ is_some (items_of w) → (xs : Items) × (items_of w ≡ some xs)
@@ -91,6 +94,22 @@ module _ (w v : List ℕ) (s : BothTables w v) where
         told = changes_are ∙ if_eq_yes (count s.xs) (count s.ys) _ _ e;
       }
 
+  -- before the first rows all is left
+  pub all_left : get_or w 1 0 ≡ get_or v 1 0 → map pair_of (changes_left w v 0 0) ≡ map pair_of (changes_of w v)
+  all_left n = ap (map pair_of) (sym (rest_is w v 0 0 (counts_same n)))
+
+  -- the first pair, and those behind it
+  pub number_left : get_or w 1 0 ≡ get_or v 1 0 → (c : Pair) (ps : List Pair) → map pair_of (changes_left w v 0 0) ≡ c ∷ ps → length (changes_of w v) ≡ 1 + length ps
+  number_left n c ps e = sym (length-map (changes_of w v) pair_of) ∙ ap length (sym (all_left n) ∙ e) ∙ omega arith
+
+  -- there are no more differences than rows
+  pub changes_bound : length (changes_of w v) ≤ 16384
+  changes_bound =
+      let k = (whole w s.xs s.left).stands in
+      let n = k.number in
+      let f = k.few in
+      omega (arith, ap length changes_are, changes_few 16384 s.xs s.ys (omega arith) (omega arith))
+
 -- ---- the list decides between 16 and 0, as the code answers
 module _ (w v : List ℕ) (s : BothTables w v) (t : List ℕ) (n : ℕ) where
   pub too_short : n ≡ length (changes_of w v) → length t / 2 < n → answered list_short n t ≡ comparing w v t
@@ -103,9 +122,12 @@ module _ (w v : List ℕ) (s : BothTables w v) (t : List ℕ) (n : ℕ) where
   all_listed u e h i =
       ap₂ (answered 0) e i ∙ sym (compared w v s t ∙ if_lt_no (length t / 2) (length (changes_of w v)) _ _ (omega arith))
 
-  pub none_listed : n ≡ length (changes_of w v) → n ≤ 0 → answered 0 n t ≡ comparing w v t
+  -- nothing is left before the first rows
+  pub nothing_left : get_or w 1 0 ≡ get_or v 1 0 → map pair_of (changes_left w v 0 0) ≡ [] → n ≡ 0 → answered 0 n t ≡ comparing w v t
   unfolding over entries
-  none_listed e h = all_listed t e (omega arith) (ap (λ l. over (entries l) t) (sym (no_length (changes_of w v) (omega arith))))
+  nothing_left m e z =
+      let l : length (changes_of w v) ≡ 0 = sym (length-map (changes_of w v) pair_of) ∙ ap length (sym (all_left w v s m) ∙ e) in
+      all_listed t (omega arith) (omega arith) (ap (λ l. over (entries l) t) (sym (no_length (changes_of w v) l)))
 
 -- the one entry of unlike counts
 module _ (w v : List ℕ) (s : BothTables w v) (n : get_or w 1 0 ≢ get_or v 1 0) (t : List ℕ) where

@@ -1,19 +1,24 @@
 -- Differences in a lent list, and the walk that lists them. Assumes nothing.
-use mathlib.Core.Path.{◌≡◌, refl, sym, ap, ◌∙◌}
-use Prim.Native.Nat.{ℕ, ◌+◌, ◌*◌, ◌/◌, ◌≤◌, ◌<◌}
+use mathlib.Core.Path.{◌≡◌, refl, sym, ap, ap₂, subst, ◌∙◌}
+use Prim.Native.Nat.{ℕ, ◌+◌, ◌*◌, ◌≤◌, ◌<◌}
 use native.Mathlib.Omega.{arith}
 use mathlib.Core.Bool.{true, false}
-use mathlib.Core.List.{List, [], ◌∷◌, ◌++◌, append_assoc, append-nil}
-use lib.ListN.{length, take, length-append}
+use mathlib.Core.List.{List, [], ◌∷◌, ◌++◌, append_assoc}
+use lib.ListN.{length, take, drop, length-append, length-map, length-drop, take-append-drop}
+use lib.Seq.{take_at, drop_at, take_all, length-take-le}
 use Rattle.format.specs.Answers.{over}
 use Rattle.format.specs.Items.{Items, end, leaf, group}
 use Rattle.format.specs.Tables.{rows}
 use Rattle.format.specs.Lent.{over_at}
-use Rattle.format.proofs.Choices.{split}
-use Rattle.format.proofs.Over.{over_self, over_length, over_front, over_over, over_next, at_front, at_length}
+use Rattle.format.proofs.Over.{over_next}
 use Rattle.table.specs.Rows.{rows_of, next_row}
+use Rattle.table.proofs.Standing.{stands_is}
 use Rattle.compare.specs.Differences.{Difference, difference, differences, entries}
-use Rattle.compare.specs.Walks.{rows_alike, changes_of, Walk, Going, Here, InRows, Passed, Met, Behind, First}
+use Rattle.std.specs.Prelude.{map, Some}
+use Rattle.std.specs.Iterator.{MakesProgress, item_count, YieldsFirst, Drains}
+use Rattle.compare.specs.declared.walk.Pair.{Pair}
+use Rattle.compare.specs.declared.walk.Apart.{Apart}
+use Rattle.compare.specs.Walks.{rows_alike, changes_left, Walk, Going, InRows, pair_of, pairs_left, Walking, Skipped}
 use Rattle.compare.proofs.Walking.{walk_on, walk_past, in_rows}
 
 -- ---- entries
@@ -40,136 +45,103 @@ walk_end w v p q rest k h = k.told ∙ ended k.xs (omega (arith, k.left.number))
     ended (leaf l xs) z = absurd (unfold rows in omega arith)
     ended (group g d xs) z = absurd (unfold rows in omega arith)
 
--- ---- rows passed that are alike
-pub pass_starts : (w v : List ℕ) (p q : ℕ) → Passed w v p q p q
-pass_starts w v p q = record { onward = omega arith; on = λ rest k. k }
+-- ---- the walk from the rows p and q on
+pub rest_is : (w v : List ℕ) (p q : ℕ) {rest : List Difference} → Walk w v p q rest → rest ≡ changes_left w v p q
+rest_is w v p q k = k.told ∙ sym (ap₂ (differences p q) (stands_is w k.d p (rows_of w) k.xs k.left) (stands_is v k.e q (rows_of v) k.ys k.right))
 
-module _ (w v : List ℕ) (p q i j : ℕ) (c : Passed w v p q i j) where
-  pub pass_here : Going w v p q → i < rows_of w → Here w v i j
-  pass_here g h = record { going = record { rest = g.rest; walk = c.on g.rest g.walk }; row = h }
+module _ (w v : List ℕ) (p q : ℕ) where
+  walk_here : Going w v p q → Walk w v p q (changes_left w v p q)
+  walk_here g = subst (Walk w v p q) (rest_is w v p q g.walk) g.walk
 
-  pub pass_on : i < rows_of w → rows_alike w v i j ≡ true → Passed w v p q (i + 1) (j + 1)
-  pass_on h a = let o = c.onward in record { onward = omega arith; on = λ rest k. walk_on w v i j rest (c.on rest k) h a }
+  pub none_left : Going w v p q → rows_of w ≤ p → changes_left w v p q ≡ []
+  none_left g h = walk_end w v p q _ (walk_here g) h
 
-  pub pass_met : rows_alike w v i j ≡ false → Met w v p q i j
-  pass_met a = record { passed = c; apart = λ h. a }
+  module _ (g : Going w v p q) (h : p < rows_of w) where
+    pub rows_here : InRows w v p q
+    rows_here = in_rows w v p q _ (walk_here g) h
 
-  pub pass_end : rows_of w ≤ i → Met w v p q i j
-  pass_end l = record { passed = c; apart = λ h. absurd (omega arith) }
+    -- past two rows that are alike
+    pub going_on : rows_alike w v p q ≡ true → Going w v (p + 1) (q + 1)
+    going_on a = record { rest = _; walk = walk_on w v p q _ (walk_here g) h a }
 
--- ---- counted: n differences before the rows p and q, which are the next, and the rest from there on
-pub record Counting (w v : List ℕ) (p q n : ℕ) : Type 0 where
-  pub rest : List Difference
-  pub walk : Walk w v p q rest
-  pub apart : p < rows_of w → rows_alike w v p q ≡ false
-  pub total : n + length rest ≡ length (changes_of w v)
-  pub low : n ≤ p
+    pub rest_on : rows_alike w v p q ≡ true → changes_left w v (p + 1) (q + 1) ≡ changes_left w v p q
+    rest_on a = sym (rest_is w v (p + 1) (q + 1) (walk_on w v p q _ (walk_here g) h a))
 
-pub count_starts : (w v : List ℕ) (p q : ℕ) → First w v p q → Counting w v p q 0
-count_starts w v p q f = record { rest = changes_of w v; walk = f.walk; apart = f.apart; total = omega arith; low = omega arith }
+    -- past two items that differ
+    pub going_past : rows_alike w v p q ≡ false → Going w v (next_row w p) (next_row v q)
+    going_past a = record { rest = _; walk = (walk_past w v p q _ (walk_here g) h a).walk }
 
--- the walk behind two items that differ
-pub behind : (w v : List ℕ) (p q : ℕ) (rest : List Difference) → Walk w v p q rest → p < rows_of w → rows_alike w v p q ≡ false → Behind w v p q
-behind w v p q rest k h a =
-    record { rows = in_rows w v p q rest k h; going = record { rest = _; walk = (walk_past w v p q rest k h a).walk } }
+    pub rest_past : rows_alike w v p q ≡ false → changes_left w v p q ≡ difference p q ∷ changes_left w v (next_row w p) (next_row v q)
+    rest_past a =
+        let k = walk_past w v p q _ (walk_here g) h a in
+        k.told ∙ ap (λ l. difference p q ∷ l) (rest_is w v (next_row w p) (next_row v q) k.walk)
 
-module _ (w v : List ℕ) (p q n : ℕ) (c : Counting w v p q n) where
-  pub count_behind : p < rows_of w → Behind w v p q
-  count_behind h = behind w v p q c.rest c.walk h (c.apart h)
+-- ---- as the iterator asks: where b is a, with what is alike left behind
+module _ {a b : Apart} (s : Skipped a b) where
+  pub left_none : rows_of b.left.now ≤ b.at.left → (pairs_left a ≡ []) × (pairs_left b ≡ [])
+  left_none h =
+      let e = none_left _ _ _ _ s.onward.going h in
+      (ap (map pair_of) (sym s.onward.rest ∙ e), ap (map pair_of) e)
 
-  pub count_on : p < rows_of w → (i j : ℕ) → Met w v (next_row w p) (next_row v q) i j → Counting w v i j (n + 1)
-  count_on h i j m =
-      let k = walk_past w v p q c.rest c.walk h (c.apart h) in
-      let b = (count_behind h).rows.left.start in
-      let o = c.low in
-      let e = c.total in
-      record { rest = k.more; walk = m.passed.on k.more k.walk; apart = m.apart; total = omega (arith, ap length k.told); low = omega (arith, m.passed.onward) }
+  module _ (h : b.at.left < rows_of b.left.now) (m n : ℕ) (i : m ≡ next_row b.left.now b.at.left) (j : n ≡ next_row b.right.now b.at.right) where
+    pub going_behind : Going b.left.now b.right.now m n
+    going_behind = rw (i, j) (going_past _ _ _ _ s.onward.going h (s.apart h))
 
-  pub count_end : rows_of w ≤ p → n ≡ length (changes_of w v)
-  count_end h = omega (arith, c.total, ap length (walk_end w v p q c.rest c.walk h))
+    pub left_some : pairs_left a ≡ b.at ∷ map pair_of (changes_left b.left.now b.right.now m n)
+    left_some = ap (map pair_of) (sym s.onward.rest) ∙ rw (i, j) (ap (map pair_of) (rest_past _ _ _ _ s.onward.going h (s.apart h)))
 
--- ---- listed: n differences over the front of the list lent, that of the rows p and q the last of them
-pub record Listing (w v o t : List ℕ) (p q n : ℕ) : Type 0 where
-  pub done : List Difference
-  pub rest : List Difference
-  pub rows : InRows w v p q
-  pub walk : Walk w v (next_row w p) (next_row v q) rest
-  pub total : changes_of w v ≡ done ++ rest
-  pub number : length done ≡ n
-  pub list : t ≡ over (entries done) o
+pub one_less : {a b : Apart} {c : Pair} → Walking b → pairs_left a ≡ c ∷ pairs_left b → MakesProgress Walking (item_count pairs_left) a (Some c) b
+one_less g e = let n = ap length e in record { on = λ f. (g, tt, omega arith); keeps = g; rests = λ f. tt }
 
+-- as many pairs come as are left
+pub all_come : (ps : List Pair) (s : Apart) → Drains (YieldsFirst pairs_left) s ps → length ps ≡ length (pairs_left s)
+all_come [] s d = sym (ap length (ap pairs_left d.1.1 ∙ d.1.2.0))
+all_come (c ∷ ps) s d = omega (arith, all_come ps d.1.1.0 (d.0, (d.1.0, d.1.1.2, d.1.2)), ap length d.1.1.1)
+
+-- ---- the first n of the differences l are listed
 -- one more, behind those that stand there
-entry_next : (l : List Difference) (p q n : ℕ) (o t : List ℕ) → length l ≡ n → t ≡ over (entries l) o
-    → over_at (2 * n) (p ∷ q ∷ []) t ≡ over (entries (l ++ (difference p q ∷ []))) o
+entry_next : (l : List Difference) (c : Difference) (n : ℕ) (o t : List ℕ) → length l ≡ n → t ≡ over (entries l) o
+    → over_at (2 * n) (c.left ∷ c.right ∷ []) t ≡ over (entries (l ++ (c ∷ []))) o
 unfolding entries
-entry_next l p q n o t e h =
-    over_next (entries l) (p ∷ q ∷ []) o t (2 * n) h (omega (arith, entries_length l)) ∙ ap (λ z. over z o) (sym (entries_append l (difference p q ∷ [])))
+entry_next l c n o t e h =
+    over_next (entries l) (c.left ∷ c.right ∷ []) o t (2 * n) h (omega (arith, entries_length l)) ∙ ap (λ z. over z o) (sym (entries_append l (c ∷ [])))
 
--- ---- the first difference
-pub first_of : (w v : List ℕ) (p q i j : ℕ) → Walk w v p q (changes_of w v) → Met w v p q i j → First w v i j
-first_of w v p q i j k m = record { walk = m.passed.on (changes_of w v) k; apart = m.apart }
+pub record Listed (l : List Difference) (n : ℕ) (ps : List Pair) (o t : List ℕ) : Type 0 where
+  pub within : n ≤ length l
+  pub rest : ps ≡ map pair_of (drop n l)
+  pub list : t ≡ over (entries (take n l)) o
 
-pub first_there : (w v : List ℕ) (p q : ℕ) → First w v p q → 0 < length (changes_of w v) → p < rows_of w
-first_there w v p q f h = split p (rows_of w) (λ l. l) (λ l. absurd (omega (arith, ap length (walk_end w v p q (changes_of w v) f.walk l))))
+pub listed_none : (l : List Difference) (ps : List Pair) (t : List ℕ) → ps ≡ map pair_of l → Listed l 0 ps t t
+unfolding entries over
+listed_none l ps t e = record { within = omega arith; rest = e; list = refl }
 
-pub first_some : (w v : List ℕ) (p q : ℕ) → First w v p q → p < rows_of w → 1 ≤ length (changes_of w v)
-first_some w v p q f h = omega (arith, ap length (walk_past w v p q (changes_of w v) f.walk h (f.apart h)).told)
+module _ {l : List Difference} {n : ℕ} {ps : List Pair} {o t : List ℕ} (h : Listed l n ps o t) where
+  pub listed_on : {c : Pair} {qs : List Pair} {u : List ℕ} → ps ≡ c ∷ qs → u ≡ over_at (2 * n) (c.left ∷ c.right ∷ []) t
+      → (n < length l) × Listed l (n + 1) qs o u
+  listed_on {c} {qs} {u} e f = go (drop n l) refl (sym h.rest ∙ e)
+    where
+      go : (d : List Difference) → drop n l ≡ d → map pair_of d ≡ c ∷ qs → (n < length l) × Listed l (n + 1) qs o u
+      go [] i k = absurd (cc)
+      go (x ∷ d) i k =
+          let w = h.within in
+          let m : n < length l = omega (arith, ap length i, length-drop n l) in
+          let z : length (take n l) ≡ n = length-take-le n l w in
+          let a : length (take n l ++ (x ∷ [])) ≡ n + 1 = length-append (take n l) (x ∷ []) ∙ omega arith in
+          let s : l ≡ (take n l ++ (x ∷ [])) ++ d = sym (take-append-drop n l) ∙ ap (λ y. take n l ++ y) i ∙ sym (append_assoc (take n l) (x ∷ []) d) in
+          let y : pair_of x ≡ c = cc in
+          let v : map pair_of d ≡ qs = cc in (
+            m,
+            record {
+              within = omega arith;
+              rest = sym v ∙ ap (map pair_of) (sym (drop_at (take n l ++ (x ∷ [])) d (n + 1) a) ∙ ap (drop (n + 1)) (sym s));
+              list = f ∙ ap (λ r. over_at (2 * n) (r.left ∷ r.right ∷ []) t) (sym y) ∙ entry_next (take n l) x n o t z h.list
+                  ∙ ap (λ r. over (entries r) o) (sym (take_at (take n l ++ (x ∷ [])) d (n + 1) a) ∙ ap (take (n + 1)) (sym s));
+            },
+          )
 
-pub list_first : (w v o u : List ℕ) (p q : ℕ) → First w v p q → p < rows_of w → u ≡ over_at (2 * 0) (p ∷ q ∷ []) o → Listing w v u u p q 1
-unfolding entries
-list_first w v o u p q f h e =
-    let k = walk_past w v p q (changes_of w v) f.walk h (f.apart h) in
-    let t : take 2 u ≡ p ∷ q ∷ [] = ap (take 2) (e ∙ at_front (p ∷ q ∷ []) o) ∙ over_front (p ∷ q ∷ []) o 2 refl in
-    record {
-      done = difference p q ∷ [];
-      rest = k.more;
-      rows = in_rows w v p q (changes_of w v) f.walk h;
-      walk = k.walk;
-      total = k.told;
-      number = refl;
-      list = sym (over_self 2 u) ∙ ap (λ z. over z u) t;
-    }
+  -- nothing is left
+  pub listed_all : length l ≤ n → t ≡ over (entries l) o
+  listed_all k = h.list ∙ ap (λ r. over (entries r) o) (take_all n l k)
 
-module _ (w v o t : List ℕ) (p q n : ℕ) (c : Listing w v o t p q n) where
-  pub list_behind : Behind w v p q
-  list_behind = record { rows = c.rows; going = record { rest = c.rest; walk = c.walk } }
-
-  left_over : length (changes_of w v) ≡ n + length c.rest
-  left_over = ap length c.total ∙ length-append c.done c.rest ∙ ap (λ z. z + length c.rest) c.number
-
-  -- there is a row more, since there is a difference more
-  list_there : n < length (changes_of w v) → (i j : ℕ) → Met w v (next_row w p) (next_row v q) i j → i < rows_of w
-  list_there h i j m =
-      split i (rows_of w) (λ l. l) (λ l. absurd (omega (arith, left_over, ap length (walk_end w v i j c.rest (m.passed.on c.rest c.walk) l))))
-
-  pub list_on : (u : List ℕ) → n < length (changes_of w v) → (i j : ℕ) → Met w v (next_row w p) (next_row v q) i j → u ≡ over_at (2 * n) (i ∷ j ∷ []) t → Listing w v o u i j (n + 1)
-  list_on u h i j m e =
-      let l = list_there h i j m in
-      let b = m.passed.on c.rest c.walk in
-      let k = walk_past w v i j c.rest b l (m.apart l) in
-      let d = difference i j ∷ [] in
-      record {
-        done = c.done ++ d;
-        rest = k.more;
-        rows = in_rows w v i j c.rest b l;
-        walk = k.walk;
-        total = c.total ∙ ap (λ z. c.done ++ z) k.told ∙ sym (append_assoc c.done d k.more);
-        number = length-append c.done d ∙ ap (λ z. z + 1) c.number;
-        list = e ∙ entry_next c.done i j n o t c.number c.list;
-      }
-
-  list_all : length (changes_of w v) ≤ n → t ≡ over (entries (changes_of w v)) o
-  list_all h =
-      let z : c.rest ≡ [] = no_length c.rest (omega (arith, left_over)) in
-      c.list ∙ ap (λ l. over (entries l) o) (sym (append-nil c.done) ∙ ap (λ l. c.done ++ l) (sym z) ∙ sym c.total)
-
-  -- over what was lent before the first was listed
-  pub list_end : (e : List ℕ) (i j : ℕ) → o ≡ over_at (2 * 0) (i ∷ j ∷ []) e → 1 ≤ length (changes_of w v) → length (changes_of w v) ≤ n → t ≡ over (entries (changes_of w v)) e
-  list_end e i j f l h =
-      list_all h ∙ ap (over (entries (changes_of w v))) (f ∙ at_front (i ∷ j ∷ []) e)
-      ∙ over_over (i ∷ j ∷ []) (entries (changes_of w v)) e (omega (arith, entries_length (changes_of w v)))
-
-  pub list_length : (e : List ℕ) (i j : ℕ) → o ≡ over_at (2 * 0) (i ∷ j ∷ []) e → 2 ≤ length e → n ≤ length e / 2 → length t ≡ length e
-  list_length e i j f l h =
-      let k : length o ≡ length e = ap length f ∙ at_length (2 * 0) (i ∷ j ∷ []) e l in
-      ap length c.list ∙ over_length (entries c.done) o (omega (arith, entries_length c.done, c.number)) ∙ k
+  pub listed_empty : ps ≡ [] → length l ≤ n
+  listed_empty e = omega (arith, ap length (sym h.rest ∙ e), length-map (drop n l) pair_of, length-drop n l)

@@ -1,12 +1,14 @@
 -- What the contracts cite beside the meaning: two tables walked side by side, row by row.
-use Rattle.std.specs.Prelude.{ℕ, zero, suc, ◌+◌, ◌*◌, ◌≤◌, ◌<◌, ◌≡◌, Bool, true, false, List, [], length, get_or, eqb}
+use Rattle.std.specs.Prelude.{ℕ, zero, suc, ◌+◌, ◌*◌, ◌≤◌, ◌<◌, ◌≡◌, Bool, true, false, List, [], length, get_or, eqb, map}
 use Rattle.std.proofs.Math.Option.{Option, none, some}
 use Rattle.format.specs.Choice.{both, if_lt, if_eq}
 use Rattle.format.specs.Bits.{words_for}
 use Rattle.format.specs.Items.{Items}
 use Rattle.format.specs.Tables.{count, items_of}
-use Rattle.table.specs.Rows.{kind_at, a_at, b_at, rows_of, next_row, Stands, Room}
+use Rattle.table.specs.Rows.{kind_at, a_at, b_at, rows_of, next_row, Stands, items_at, Room}
 use Rattle.compare.specs.Differences.{Difference, differences, changes}
+use Rattle.compare.specs.declared.walk.Pair.{Pair}
+use Rattle.compare.specs.declared.walk.Apart.{Apart}
 
 -- ---- two rows by themselves
 -- n words of the one table from i on are those of the other from j on
@@ -72,30 +74,40 @@ pub record Here (w v : List ℕ) (p q : ℕ) : Type 0 where
   pub going : Going w v p q
   pub row : p < rows_of w
 
--- the walk goes from the rows p and q on to i and j with nothing told
-pub record Passed (w v : List ℕ) (p q i j : ℕ) : Type 0 where
-  pub onward : p ≤ i
-  pub on : (rest : List Difference) → Walk w v p q rest → Walk w v i j rest
-
--- and these are not alike, unless all rows are behind them
-pub record Met (w v : List ℕ) (p q i j : ℕ) : Type 0 where
-  pub passed : Passed w v p q i j
-  pub apart : i < rows_of w → rows_alike w v i j ≡ false
-
 -- the items of the rows p and q have all their rows
 pub record InRows (w v : List ℕ) (p q : ℕ) : Type 0 where
   pub left : Room w (p + 1) (next_row w p)
   pub right : Room v (q + 1) (next_row v q)
 
--- they can be left behind whole, and the walk goes on there
-pub record Behind (w v : List ℕ) (p q : ℕ) : Type 0 where
-  pub rows : InRows w v p q
-  pub going : Going w v (next_row w p) (next_row v q)
+-- what is told of the rows p and q and of those behind them
+abbrev pub changes_left : List ℕ → List ℕ → ℕ → ℕ → List Difference
+changes_left w v p q = differences p q (items_at w p (rows_of w)) (items_at v q (rows_of v))
 
--- nothing is told before the rows p and q, and these are not alike, unless all rows are behind them
-pub record First (w v : List ℕ) (p q : ℕ) : Type 0 where
-  pub walk : Walk w v p q (changes_of w v)
-  pub apart : p < rows_of w → rows_alike w v p q ≡ false
+-- ---- the walk, as the code has it
+abbrev pub pair_of : Difference → Pair
+pair_of c = record { left = c.left; right = c.right }
+
+-- the pairs that are still to come
+abbrev pub pairs_left : Apart → List Pair
+pairs_left s = map pair_of (changes_left s.left.now s.right.now s.at.left s.at.right)
+
+abbrev pub Walking : Apart → Type 0
+Walking s = Going s.left.now s.right.now s.at.left s.at.right
+
+abbrev pub Standing : Apart → Type 0
+Standing s = Here s.left.now s.right.now s.at.left s.at.right
+
+-- from a to b the walk went on in the same tables with nothing told
+pub record Onward (a b : Apart) : Type 0 where
+  pub left : b.left ≡ a.left
+  pub right : b.right ≡ a.right
+  pub going : Walking b
+  pub rest : changes_left b.left.now b.right.now b.at.left b.at.right ≡ changes_left a.left.now a.right.now a.at.left a.at.right
+
+-- and the rows there are not alike, unless all are behind them
+pub record Skipped (a b : Apart) : Type 0 where
+  pub onward : Onward a b
+  pub apart : b.at.left < rows_of b.left.now → rows_alike b.left.now b.right.now b.at.left b.at.right ≡ false
 
 -- both are tables
 pub record BothTables (w v : List ℕ) : Type 0 where

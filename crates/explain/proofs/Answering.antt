@@ -2,12 +2,10 @@
 use Prim.Native.Nat.{ℕ, zero, suc, ◌+◌, ◌*◌, ◌≤◌, ◌<◌, min, zero-le}
 use native.Mathlib.Omega.{arith}
 use mathlib.Core.Path.{◌≡◌, refl, sym, ap, ap₂, ◌∙◌}
-use mathlib.Core.Logic.{◌≢◌}
+use mathlib.Core.Logic.{◌≢◌, inl, inr}
 use mathlib.Core.List.{List, []}
-use lib.ListN.{length, take}
-use lib.Seq.{length-take-le}
-use Rattle.format.specs.declared.fault.Fault.{Fault}
-use Rattle.format.specs.Refusals.{byte_limit, row_limit, word_limit}
+use lib.ListN.{length}
+use Rattle.format.specs.Refusals.{Fault, byte_limit, row_limit, word_limit}
 use Rattle.format.specs.Items.{Items}
 use Rattle.format.specs.Messages.{Outcome, refused, says, outcome}
 use Rattle.format.specs.Tables.{rows, data_words, words_needed}
@@ -17,16 +15,17 @@ use Rattle.message.specs.declared.Reading.{Reading}
 use Rattle.message.specs.Told.{fault_answer, read_answer}
 use Rattle.message.proofs.Cases.{read_fault}
 use Rattle.scan.specs.declared.summary.Summary.{Summary}
-use Rattle.scan.specs.declared.Scanned.TheVariants.{Refused, Accepted}
+use Rattle.std.specs.Prelude.{Ok, Err}
 use Rattle.scan.specs.Sums.{sum_of}
 use Rattle.scan.specs.Answer.{answer}
 use Rattle.explain.specs.declared.Explaining as Code
 use Rattle.explain.specs.declared.evidence.Evidence.{Evidence}
 use Rattle.explain.specs.declared.evidence.Evidence.TheVariants.{Nothing, Wanted}
-use Rattle.explain.specs.declared.descent.Spot.{Spot}
-use Rattle.explain.specs.Reasons.{Why, why, evidence_at}
+use Rattle.explain.specs.declared.stretch.Stretch.{Stretch}
+use Rattle.explain.specs.declared.trail.Trail.{Trail}
+use Rattle.explain.specs.Reasons.{Why, why}
 use Rattle.explain.specs.Explanations.{blank, answer_of, reading_in, wanted, why_by, why_refused, explained, explaining, in_numbers}
-use Rattle.explain.specs.Told.{Descended, explain_told, told_of, refused_told, measured_of}
+use Rattle.explain.specs.Told.{Descended, around_of, evidence_in, explain_told, told_of, refused_told, measured_of}
 use Rattle.explain.proofs.Faultless as F
 
 pub blank_long : (w : ℕ) → length (blank w) ≡ w
@@ -123,48 +122,48 @@ module _ (m : List ℕ) (w : ℕ) (l : List ℕ) (s : Summary) (short : length m
   said_told xs o er ew =
       split row_limit (rows xs)
       (λ h. by_reading xs o (read_answer 10 0) (Wanted (min s.rows 65536) (min s.words 65536)) (read_rows m w xs short o h)
-      (are_wanted xs 10 _ _ (omega arith) (omega arith) (omega arith)) (sym (F.many_rows s.rows s.words w _ (read_answer 10 0) _ _ refl refl refl refl (omega arith))))
+      (are_wanted xs 10 _ _ (omega arith) (omega arith) (omega arith)) (sym (F.many s.rows s.words w _ (read_answer 10 0) _ _ refl refl refl refl (inl (omega arith)))))
       (λ h. split word_limit (length (data_words xs))
       (λ g. by_reading xs o (read_answer 10 0) (Wanted (min s.rows 65536) (min s.words 65536)) (read_words m w xs short o h g)
-      (are_wanted xs 10 _ _ (omega arith) (omega arith) (omega arith)) (sym (F.many_words s.rows s.words w _ (read_answer 10 0) _ _ refl refl refl refl (omega arith) (omega arith))))
+      (are_wanted xs 10 _ _ (omega arith) (omega arith) (omega arith)) (sym (F.many s.rows s.words w _ (read_answer 10 0) _ _ refl refl refl refl (inr (omega arith)))))
       (λ g.
       let n : 4 + 3 * s.rows + s.words ≡ words_needed xs = omega arith in
       split w (words_needed xs)
       (λ k. by_reading xs o (read_answer 11 (4 + 3 * s.rows + s.words)) (Wanted s.rows s.words) (read_short m w xs short o h g k ∙ ap (read_answer 11) (sym n))
-      (are_wanted xs 11 _ _ (omega arith) (omega arith) (omega arith)) (sym (F.short_table s.rows s.words w _ _ refl refl (omega arith) (omega arith) (omega arith))))
+      (are_wanted xs 11 _ _ (omega arith) (omega arith) (omega arith)) (sym (F.short_table s.rows s.words w _ _ (omega arith, omega arith) refl refl (omega arith))))
       (λ k. by_reading xs o (read_answer 0 (4 + 3 * s.rows + s.words)) Nothing (read_full m w xs short o h g k ∙ ap (read_answer 0) (sym n)) (nothing_wanted xs 0 refl)
-      (sym (F.enough_words s.rows s.words w _ _ refl refl (omega arith) (omega arith) (omega arith))))))
+      (sym (F.enough_words s.rows s.words w _ _ (omega arith, omega arith) refl refl (omega arith))))))
 
-  pub accepted_told : Accepted s ≡ answer (outcome m) → explain_told (measured_of s.rows s.words w) l ≡ in_numbers (explaining m w l)
+  pub accepted_told : Ok s ≡ answer (outcome m) → explain_told (measured_of s.rows s.words w) l ≡ in_numbers (explaining m w l)
   accepted_told = go (outcome m) refl
     where
-      go : (o : Outcome) → outcome m ≡ o → Accepted s ≡ answer o → explain_told (measured_of s.rows s.words w) l ≡ in_numbers (explaining m w l)
+      go : (o : Outcome) → outcome m ≡ o → Ok s ≡ answer o → explain_told (measured_of s.rows s.words w) l ≡ in_numbers (explaining m w l)
       go (refused f) e a = unfold answer in let z : ◌≡◌ {A = ℕ} 0 1 = cc in absurd (omega arith)
       go (says xs) e a = let q = summed xs a in said_told xs e q.0 q.1
         where
-          summed : (xs : Items) → Accepted s ≡ answer (says xs) → (s.rows ≡ min (rows xs) 524288) × (s.words ≡ min (length (data_words xs)) 65536)
+          summed : (xs : Items) → Ok s ≡ answer (says xs) → (s.rows ≡ min (rows xs) 524288) × (s.words ≡ min (length (data_words xs)) 65536)
           summed xs a = unfold answer sum_of in let k : s ≡ sum_of xs = cc in (ap (λ (x : Summary). x.rows) k, ap (λ (x : Summary). x.words) k)
 
--- ---- a message with a fault, from where the descent ended
-module _ (m : List ℕ) (f : Fault) (l : List ℕ) (s : Spot) (x : Descended m s) (r : Code.Explaining) (q : Reading) where
-  listed : length (why m).around ≡ s.listed
-  listed = ap length (sym x.around_is) ∙ length-take-le s.listed s.trail (omega (arith, x.sixteen, x.few))
+-- ---- a message with a fault, from where the descent ended, with the places ps
+module _ (m : List ℕ) (f : Fault) (l ps : List ℕ) (s : Stretch) (y : Trail) (x : Descended m s y) (p : ps ≡ around_of y) (r : Code.Explaining) where
+  listed : ps ≡ (why m).around
+  listed = p ∙ x.around_is
 
-  pub short_told : length l < s.listed → r ≡ told_of 16 s.listed q Nothing → q ≡ read_answer 0 0 → explain_told r l ≡ refused_told m f l
+  pub short_told : length l < length ps → r ≡ told_of 16 (length ps) (read_answer 0 0) Nothing → explain_told r l ≡ refused_told m f l
   unfolding refused_told in_numbers explained told_of
-  short_told h e i =
-      ap (λ y. explain_told y l) (e ∙ ap₂ (λ n y. told_of 16 n y Nothing) (sym listed) i)
-      ∙ sym (ap in_numbers (if_lt_yes (length l) (length (why m).around) _ _ (omega (arith, listed))))
+  short_told h e =
+      ap (λ y. explain_told y l) (e ∙ ap (λ q. told_of 16 (length q) (read_answer 0 0) Nothing) listed)
+      ∙ sym (ap in_numbers (if_lt_yes (length l) (length (why m).around) _ _ (omega (arith, ap length listed))))
 
-  pub listed_told : (v : Evidence) (t : List ℕ) → s.listed ≤ length l → r ≡ told_of 0 s.listed q v → q ≡ fault_answer f → v ≡ evidence_at m s.depth s.at s.end
-      → t ≡ over (take s.listed s.trail) l → explain_told r t ≡ refused_told m f l
+  pub listed_told : (q : Reading) (v : Evidence) (t : List ℕ) → length ps ≤ length l → r ≡ told_of 0 (length ps) q v → q ≡ fault_answer f → v ≡ evidence_in s
+      → t ≡ over ps l → explain_told r t ≡ refused_told m f l
   unfolding refused_told in_numbers explained told_of
-  listed_told v t h e i j k =
-      ap₂ explain_told (e ∙ ap (λ n. told_of 0 n q v) (sym listed) ∙ ap₂ (λ y z. told_of 0 (length (why m).around) y z) i (j ∙ x.evidence_is)) (k ∙ ap (λ p. over p l) x.around_is)
-      ∙ sym (ap in_numbers (if_lt_no (length l) (length (why m).around) _ _ (omega (arith, listed))))
+  listed_told q v t h e i j k =
+      ap₂ explain_told (e ∙ ap (λ n. told_of 0 (length n) q v) listed ∙ ap₂ (λ y z. told_of 0 (length (why m).around) y z) i (j ∙ x.evidence_is)) (k ∙ ap (λ p. over p l) listed)
+      ∙ sym (ap in_numbers (if_lt_no (length l) (length (why m).around) _ _ (omega (arith, ap length listed))))
 
 -- a refusal of the scan is the message's fault
-pub scan_refused : (o : Outcome) (f : Fault) → Refused f ≡ answer o → o ≡ refused f
+pub scan_refused : (o : Outcome) (f : Fault) → Err f ≡ answer o → o ≡ refused f
 unfolding answer
 scan_refused (refused g) f e = let k : g ≡ f = cc in ap refused k
 scan_refused (says xs) f e = let z : ◌≡◌ {A = ℕ} 0 1 = cc in absurd (omega arith)

@@ -7,7 +7,7 @@ use mathlib.Core.Path.{◌≡◌, refl, sym, ap, ap₂, ◌∙◌, subst, fun_ex
 use mathlib.Core.List.{List, [], ◌∷◌}
 use lib.ListN.{length, take, drop, get_or, length-take, length-drop}
 use lib.Seq.{drop-cons, drop-drop, take-take, length-take-le}
-use Rattle.format.specs.declared.fault.Fault.{Fault}
+use Rattle.format.specs.Refusals.{Fault}
 use Rattle.format.specs.Items.{Items}
 use Rattle.format.specs.Objects as O
 use Rattle.format.specs.Messages.{bad, got, around, object, next, reads}

@@ -7,9 +7,8 @@ use mathlib.Core.Bool.{true, false}
 use mathlib.Core.List.{List, [], ◌∷◌, ◌++◌}
 use lib.ListN.{length, get_or}
 use Rattle.format.specs.declared.Class.TheVariants as C
-use Rattle.format.specs.declared.fault.Fault.{Fault}
 use Rattle.format.specs.Choice.{either}
-use Rattle.format.specs.Refusals.{several_kinds, bad_edt}
+use Rattle.format.specs.Refusals.{Fault, several_kinds, bad_edt}
 use Rattle.format.specs.Items.{Items, end, leaf, group, kinds, all_of, alike, uniform, edt_rule, starts_int, starts_string, behind}
 use Rattle.format.specs.Classes.{class_of}
 use Rattle.format.specs.Objects as O

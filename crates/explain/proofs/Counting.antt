@@ -1,40 +1,31 @@
 -- What stands in the place of a length or count, byte by byte; and the contents that a size tells. Assumes nothing.
-use Prim.Native.Nat.{ℕ, ◌+◌, ◌-◌, ◌≤◌, ◌<◌}
+use Prim.Native.Nat.{ℕ, zero, suc, ◌+◌, ◌-◌, ◌≤◌, ◌<◌}
 use native.Mathlib.Omega.{arith}
 use native.Mathlib.Nat.{add-zero}
-use native.Mathlib.Numerals.{add-one}
-use mathlib.Core.Path.{◌≡◌, sym, ap, ◌∙◌}
+use mathlib.Core.Path.{◌≡◌, refl, sym, ap, ◌∙◌}
 use mathlib.Core.Logic.{◌≢◌}
-use mathlib.Core.List.{List, ◌∷◌}
-use lib.ListN.{length, take, drop, get_or, length-take, length-drop, drop_of_length-le}
+use mathlib.Core.List.{List, [], ◌∷◌}
+use lib.ListN.{length, drop, get_or, length-take, length-drop}
 use lib.IntN.{ℤ}
-use lib.Seq.{drop-cons}
 use Rattle.format.proofs.Choices.{if_eq_yes, if_eq_no}
 use Rattle.format.specs.Objects as O
 use Rattle.explain.specs.declared.evidence.Evidence.{Evidence}
 use Rattle.explain.specs.declared.evidence.Evidence.TheVariants.{End, Absent, Byte, Number}
 use Rattle.explain.specs.Reasons.{between, in_place, counted, counting}
 
-pub in_place_start : (c : List ℕ) (a : ℕ) → in_place c a ≡ in_place (drop 0 c) (a + 0)
-in_place_start c a = ap (in_place c) (sym (add-zero a))
+pub in_place_byte : (c : List ℕ) (a i : ℕ) → (i < length c) × (get_or c i 0 ≢ 0xff) × ((k : ℕ) → k < i → get_or c k 0 ≡ 0xff)
+    → Byte (get_or c i 0) (a + i) ≡ in_place c a
+unfolding in_place
+in_place_byte [] a i f = absurd (omega arith)
+in_place_byte (b ∷ c) a zero f = ap (Byte b) (add-zero a) ∙ sym (if_eq_no _ _ _ _ f.1)
+in_place_byte (b ∷ c) a (suc i) f =
+    let k : a + suc i ≡ a + 1 + i = omega arith in
+    ap (Byte (get_or c i 0)) k ∙ in_place_byte c (a + 1) i (omega (arith, f.0), f.1, λ j l. f.2 (suc j) (omega arith)) ∙ sym (if_eq_yes _ _ _ _ (f.2 0 (omega arith)))
 
-module _ (c : List ℕ) (a i : ℕ) where
-  here : i < length c → drop i c ≡ get_or c i 0 ∷ drop (i + 1) c
-  here h = drop-cons c i 0 h ∙ ap (λ k. get_or c i 0 ∷ drop k c) (sym (add-one i))
-
-  pub in_place_on : i < length c → get_or c i 0 ≡ 0xff → in_place c a ≡ in_place (drop i c) (a + i) → in_place c a ≡ in_place (drop (i + 1) c) (a + (i + 1))
-  unfolding in_place
-  in_place_on h b e =
-      let k : a + i + 1 ≡ a + (i + 1) = omega arith in
-      e ∙ ap (λ l. in_place l (a + i)) (here h) ∙ if_eq_yes _ _ _ _ b ∙ ap (in_place (drop (i + 1) c)) k
-
-  pub in_place_byte : i < length c → get_or c i 0 ≢ 0xff → in_place c a ≡ in_place (drop i c) (a + i) → Byte (get_or c i 0) (a + i) ≡ in_place c a
-  unfolding in_place
-  in_place_byte h b e = sym (e ∙ ap (λ l. in_place l (a + i)) (here h) ∙ if_eq_no _ _ _ _ b)
-
-  pub in_place_none : length c ≤ i → in_place c a ≡ in_place (drop i c) (a + i) → Absent ≡ in_place c a
-  unfolding in_place
-  in_place_none h e = sym (e ∙ ap (λ l. in_place l (a + i)) (drop_of_length-le c h))
+pub in_place_none : (c : List ℕ) (a : ℕ) → ((k : ℕ) → k < length c → get_or c k 0 ≡ 0xff) → Absent ≡ in_place c a
+unfolding in_place
+in_place_none [] a f = refl
+in_place_none (b ∷ c) a f = in_place_none c (a + 1) (λ k l. f (suc k) (omega arith)) ∙ sym (if_eq_yes _ _ _ _ (f 0 (omega arith)))
 
 -- ---- by what stands at the front of contents
 module _ (c : List ℕ) (a : ℕ) where
@@ -57,9 +48,11 @@ unfolding counting
 counting_sized m i s h n e = ap (counting m i) e
 
 -- contents within the bytes behind a type-byte
-pub part_fits : (m : List ℕ) (i e h n : ℕ) → i < e → h + n ≤ length (take (e - (i + 1)) (drop (i + 1) m)) → i + 1 + h + n ≤ e
+pub part_fits : (m : List ℕ) (i e h n : ℕ) → i < e → h + n ≤ length (between m (i + 1) e) → i + 1 + h + n ≤ e
+unfolding between
 part_fits m i e h n l f = omega (arith, length-take (e - (i + 1)) (drop (i + 1) m))
 
 -- a part is no longer than what is behind its start
-pub part_small : (m : List ℕ) (i e : ℕ) → i ≤ length m → i + length (take (e - i) (drop i m)) ≤ length m
+pub part_small : (m : List ℕ) (i e : ℕ) → i ≤ length m → i + length (between m i e) ≤ length m
+unfolding between
 part_small m i e l = omega (arith, length-take (e - i) (drop i m), length-drop i m)

@@ -8,8 +8,7 @@ use mathlib.Core.List.{List, [], ◌∷◌, ◌++◌}
 use lib.ListN.{length, get_or}
 use Rattle.format.specs.declared.Class.{Class}
 use Rattle.format.specs.declared.Class.TheVariants as C
-use Rattle.format.specs.declared.fault.Fault.{Fault}
-use Rattle.format.specs.Refusals.{too_deep, depth_limit}
+use Rattle.format.specs.Refusals.{Fault, too_deep, depth_limit}
 use Rattle.format.specs.Items.{Items, STRUC, EDT, kinds}
 use Rattle.format.specs.Classes.{class_of}
 use Rattle.format.specs.Objects as O

@@ -8,8 +8,7 @@ use mathlib.Core.Path.{◌≡◌, refl, sym, ap, ◌∙◌, subst}
 use mathlib.Core.List.{List, [], ◌∷◌, ◌++◌, append-nil}
 use lib.ListN.{length}
 use lib.Seq.{take_all}
-use Rattle.format.specs.declared.fault.Fault.{Fault}
-use Rattle.format.specs.Refusals.{further, depth_limit}
+use Rattle.format.specs.Refusals.{Fault, further, depth_limit}
 use Rattle.format.specs.Items.{Items}
 use Rattle.format.specs.Objects as O
 use Rattle.format.specs.Messages.{refused, says, bad, closing, around, reads, outcome}

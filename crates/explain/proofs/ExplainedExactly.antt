@@ -5,9 +5,8 @@ use mathlib.Core.Path.{◌≡◌, refl, sym, ap, ◌∙◌, subst}
 use mathlib.Core.Logic.{◌≢◌, ◌⊎◌, inl, inr, ⊎_elim, ◌↔◌}
 use mathlib.Core.List.{List, []}
 use lib.ListN.{length}
-use Rattle.format.specs.declared.fault.Fault.{Fault}
 use Rattle.format.specs.Choice.{if_lt}
-use Rattle.format.specs.Refusals.{byte_limit, row_limit, word_limit, depth_limit}
+use Rattle.format.specs.Refusals.{Fault, byte_limit, row_limit, word_limit, depth_limit}
 use Rattle.format.specs.Items.{Items}
 use Rattle.format.specs.Messages.{Outcome, refused, says, outcome}
 use Rattle.format.specs.Tables.{rows, data_words, table_of, words_needed}

@@ -7,9 +7,8 @@ use mathlib.Core.List.{List, [], ◌∷◌, ◌++◌, append-nil}
 use lib.ListN.{length, get_or}
 use lib.IntN.{pos, negsuc}
 use Rattle.format.specs.declared.Class.TheVariants as C
-use Rattle.format.specs.declared.fault.Fault.{Fault}
 use Rattle.format.specs.Choice.{if_eq, either}
-use Rattle.format.specs.Refusals.{here, past_enclosing, unassigned, too_deep, bad_bits, bad_repeat, several_kinds, bad_edt, depth_limit}
+use Rattle.format.specs.Refusals.{Fault, here, past_enclosing, unassigned, too_deep, bad_bits, bad_repeat, several_kinds, bad_edt, depth_limit}
 use Rattle.format.specs.Items.{Items, starts_int, starts_string}
 use Rattle.format.specs.Classes.{class_of}
 use Rattle.format.specs.Objects as O

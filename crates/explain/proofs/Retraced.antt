@@ -8,8 +8,7 @@ use mathlib.Core.Logic.{◌⊎◌, inl, inr, ⊎_elim}
 use mathlib.Core.List.{List, [], ◌∷◌, ◌++◌}
 use lib.ListN.{length}
 use lib.Seq.{take_all}
-use Rattle.format.specs.declared.fault.Fault.{Fault}
-use Rattle.format.specs.Refusals.{further}
+use Rattle.format.specs.Refusals.{Fault, further}
 use Rattle.format.specs.Items.{Items}
 use Rattle.format.specs.Objects as O
 use Rattle.format.specs.Messages.{Outcome, refused, says, Object, bad, got, closing, around, onto, reads, outcome}

@@ -4,11 +4,11 @@ use native.Mathlib.Omega.{arith}
 use mathlib.Core.Path.{◌≡◌, refl, sym, ap, ◌∙◌, subst}
 use mathlib.Core.Logic.{◌≢◌, ◌⊎◌, inl, inr}
 use mathlib.Core.List.{List, [], ◌∷◌}
+use Rattle.std.specs.Prelude.{Ok, Err}
 use lib.ListN.{length}
 use Rattle.format.specs.declared.Class.{Class}
 use Rattle.format.specs.declared.Class.TheVariants as C
-use Rattle.format.specs.declared.fault.Fault.{Fault}
-use Rattle.format.specs.Refusals.{here, wants}
+use Rattle.format.specs.Refusals.{Fault, here, wants}
 use Rattle.format.specs.Classes.{class_of}
 use Rattle.format.specs.Objects as O
 use Rattle.format.proofs.Choices.{if_lt_yes, if_lt_no, split, by_lt, by_eq}
@@ -16,22 +16,22 @@ use Rattle.format.proofs.Sizes.{SizeFits, size_fits}
 use Rattle.format.proofs.TypeBytes.{InClass, in_class}
 use Rattle.format.proofs.HeadCases.{past_range}
 use Rattle.wire.specs.Extents.{ExtentIs}
-use Rattle.wire.specs.declared.size.Extent.TheVariants.{Wanting, Within}
+use Rattle.wire.specs.declared.size.Extent.{Extent}
 use Rattle.explain.specs.Told.{SizeIn}
 
 -- the code's answer about a size that tells contents within the bytes
-pub within_size : (s : List ℕ) (h n : ℕ) → ExtentIs s (Within h n) → O.size_of s ≡ O.size h n
+pub within_size : (s : List ℕ) (x : Extent) → ExtentIs s (Ok x) → O.size_of s ≡ O.size x.start x.size
 unfolding O.sized O.within
-within_size s h n is = go (O.size_of s) (is.0 0 (O.opens O.as_struc))
+within_size s x is = go (O.size_of s) (is.0 0 (O.opens O.as_struc))
   where
-    go : (z : O.Size) → O.within 0 s (O.opens O.as_struc) z ≡ O.opens O.as_struc h n → z ≡ O.size h n
+    go : (z : O.Size) → O.within 0 s (O.opens O.as_struc) z ≡ O.opens O.as_struc x.start x.size → z ≡ O.size x.start x.size
     go (O.cut k) e = let z : ◌≡◌ {A = ℕ} 0 1 = cc in absurd (omega arith)
     go (O.size i j) e =
         split (length s - i) j
-        (λ l. let x = sym (if_lt_yes (length s - i) j _ _ l) ∙ e in let z : ◌≡◌ {A = ℕ} 0 1 = cc in absurd (omega arith))
-        (λ l. let x = sym (if_lt_no (length s - i) j _ _ l) ∙ e in cc)
+        (λ l. let y = sym (if_lt_yes (length s - i) j _ _ l) ∙ e in let z : ◌≡◌ {A = ℕ} 0 1 = cc in absurd (omega arith))
+        (λ l. let y = sym (if_lt_no (length s - i) j _ _ l) ∙ e in cc)
 
-pub not_wanting : {X : Type 0} (s : List ℕ) (k : ℕ) → SizeIn s → ExtentIs s (Wanting k) → X
+pub not_wanting : {X : Type 0} (s : List ℕ) (k : ℕ) → SizeIn s → ExtentIs s (Err k) → X
 unfolding O.sized O.within
 not_wanting s k (h, n, e, l) is =
     let x = sym (if_lt_no (length s - h) n _ _ (omega arith)) ∙ sym (ap (O.within 0 s (O.opens O.as_struc)) e) ∙ is 0 (O.opens O.as_struc) in

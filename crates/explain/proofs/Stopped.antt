@@ -11,10 +11,9 @@ use lib.Seq.{length-take-le, get_or-take}
 use lib.IntN.{pos, negsuc}
 use Rattle.format.specs.declared.Class.{Class}
 use Rattle.format.specs.declared.Class.TheVariants as C
-use Rattle.format.specs.declared.fault.Fault.{Fault}
 use Rattle.format.specs.Choice.{if_eq}
 use Rattle.format.specs.Bits.{bytes_for}
-use Rattle.format.specs.Refusals.{here, wants, further, past_enclosing, unassigned, too_deep, bad_bits, bad_repeat, depth_limit}
+use Rattle.format.specs.Refusals.{Fault, here, wants, further, past_enclosing, unassigned, too_deep, bad_bits, bad_repeat, depth_limit}
 use Rattle.format.specs.Classes.{class_of}
 use Rattle.format.specs.Objects as O
 use Rattle.format.specs.Extents.{extent_by, extent_of}

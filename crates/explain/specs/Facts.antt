@@ -2,12 +2,11 @@
 -- and its offsets, one case for each sort of evidence.
 use Rattle.std.specs.Prelude.{ℕ, suc, ◌+◌, ◌-◌, ◌≤◌, ◌<◌, ◌≡◌, ◌≢◌, true, false, List, [], ◌∷◌, ◌++◌, length, get_or, pos, negsuc}
 use Rattle.std.proofs.Math.Option.{some}
-use Rattle.format.specs.declared.fault.Fault.{Fault}
 use Rattle.format.specs.Choice.{either}
 use Rattle.format.specs.declared.Class.{Class}
 use Rattle.format.specs.declared.Class.TheVariants as C
 use Rattle.format.specs.Bits.{bytes_for}
-use Rattle.format.specs.Refusals.{past_enclosing, unassigned, too_deep, bad_bits, bad_repeat, several_kinds, bad_edt, depth_limit}
+use Rattle.format.specs.Refusals.{Fault, past_enclosing, unassigned, too_deep, bad_bits, bad_repeat, several_kinds, bad_edt, depth_limit}
 use Rattle.format.specs.Items.{Items, end, INT, BITS, CHAR, BOOL, EMPTY, XTRA, STRUC, EDT, kinds, starts_int, starts_string, behind}
 use Rattle.format.specs.Classes.{class_of}
 use Rattle.format.specs.Objects as O

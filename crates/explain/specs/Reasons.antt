@@ -2,9 +2,8 @@
 -- the evidence". All places are offsets in the whole input, `m`. An object stands at `i` with `d` containers around it, and the bytes that
 -- it may have end at `e`, with the input or with the object that encloses it.
 use Rattle.std.specs.Prelude.{ℕ, zero, suc, ◌+◌, ◌-◌, List, [], ◌∷◌, ◌++◌, length, take, drop, get_or}
-use Rattle.format.specs.declared.fault.Fault.{Fault}
 use Rattle.format.specs.Choice.{pick, if_lt, if_eq, either}
-use Rattle.format.specs.Refusals.{unassigned, too_deep, bad_bits}
+use Rattle.format.specs.Refusals.{Fault, unassigned, too_deep, bad_bits}
 use Rattle.format.specs.Items.{Items, STRUC, EDT, kinds, starts_int, starts_string}
 use Rattle.format.specs.Objects as O
 use Rattle.format.specs.Messages.{Outcome, refused, says, Object, bad, got, reads}

@@ -1,85 +1,112 @@
--- What the code's answers say: places among elements, an object in a run, where a descent ends; and the answer beside the list.
-use Rattle.std.specs.Prelude.{ℕ, ◌+◌, ◌-◌, ◌*◌, ◌≤◌, ◌<◌, min, ◌≡◌, ◌≢◌, ◌⊎◌, Bool, true, List, [], ◌∷◌, eqb, length, take, get_or}
-use Rattle.format.specs.Choice.{if_lt, if_eq, either}
+-- What the code's answers say: a stretch of a message, places among elements, an object in a run, where a descent ends; and the answer
+-- beside the list.
+use Rattle.std.specs.Prelude.{ℕ, ◌+◌, ◌*◌, ◌≤◌, ◌<◌, min, ◌≡◌, ◌⊎◌, Bool, true, false, List, [], ◌∷◌, length, take, get_or, Option, Some, None, Result, Ok, Err}
+use Rattle.std.specs.Option.{option_or}
+use Rattle.format.specs.Choice.{if_lt, if_eq}
 use Rattle.format.specs.declared.fault.Fault.{Fault}
+use Rattle.format.specs.declared.kinds.Kind.{Kind}
+use Rattle.format.specs.declared.kinds.Kind.TheVariants as K
+use Rattle.format.specs.Kinds.{word_of}
+use Rattle.format.specs.Refused.{meant}
+use Rattle.format.specs.Refusals as R
 use Rattle.format.specs.Refusals.{too_many, table_short, row_limit, word_limit}
-use Rattle.format.specs.Items.{Items, end, INT, CHAR, STRUC, EDT}
+use Rattle.format.specs.Items.{Items, end, CHAR, INT}
 use Rattle.format.specs.Objects as O
-use Rattle.format.specs.Messages.{refused, outcome}
+use Rattle.format.specs.Messages.{Outcome, refused, reads, outcome}
 use Rattle.wire.specs.declared.head.Wrap.{Wrap}
 use Rattle.wire.specs.declared.head.Wrap.TheVariants.{Struc, Ustruc, Edt, Repeat}
+use Rattle.wire.specs.declared.size.Extent.{Extent}
 use Rattle.message.specs.declared.Reading.{Reading}
 use Rattle.message.specs.Told.{fault_answer, read_answer}
 use Rattle.explain.specs.declared.evidence.Evidence.{Evidence}
 use Rattle.explain.specs.declared.evidence.Evidence.TheVariants.{Nothing, Kinds, Element, NoElement, Wanted}
+use Rattle.explain.specs.declared.stretch.Stretch.{Stretch}
 use Rattle.explain.specs.declared.elements.Places.{Places}
 use Rattle.explain.specs.declared.elements.Piece.{Piece}
-use Rattle.explain.specs.declared.elements.Piece.TheVariants.{Halt, Skip, Item, Copies}
+use Rattle.explain.specs.declared.elements.Piece.TheVariants.{Skip, Item, Copies}
 use Rattle.explain.specs.declared.descent.Step.{Step}
-use Rattle.explain.specs.declared.descent.Step.TheVariants as S
-use Rattle.explain.specs.declared.descent.Spot.{Spot}
+use Rattle.explain.specs.declared.descent.Step.TheVariants.{Over, Into}
+use Rattle.explain.specs.declared.trail.Trail.{Trail}
 use Rattle.explain.specs.declared.Explaining.{Explaining}
-use Rattle.explain.specs.Reasons.{Stands, elements_by, evidence_at, why}
+use Rattle.explain.specs.Reasons.{Stands, between, head_at, elements_by, elements_in, counting, stopped, evidence_at, why}
 use Rattle.explain.specs.Explanations as E
 
--- ---- places: one more than that of an object, or 0 where there is none
-unfoldable pub or_else : ℕ → ℕ → ℕ
-unfolding if_eq
-or_else a b = if_eq a 0 b a
+-- ---- a stretch, and the object that it begins with
+abbrev pub behind_of : Stretch → List ℕ
+behind_of s = between s.message.now (s.from + 1) s.end
 
-unfoldable pub second_of : ℕ → ℕ → ℕ → ℕ → ℕ
-unfolding if_eq or_else
-second_of first second later last = if_eq first 0 last (or_else second later)
+abbrev pub head_in : Stretch → O.Head
+head_in s = head_at s.message.now s.depth s.from s.end
 
-unfoldable pub first_place : List Stands → ℕ
-first_place [] = 0
-first_place (x ∷ xs) = 1 + x.place
+abbrev pub said_in : Stretch → Outcome
+said_in s = reads s.depth (between s.message.now s.from s.end)
 
-unfoldable pub second_place : List Stands → ℕ
-unfolding first_place
-second_place [] = 0
+abbrev pub elements_of : Stretch → List Stands
+elements_of s = elements_in s.message.now s.depth s.from s.end
+
+abbrev pub counting_in : Stretch → Evidence
+counting_in s = counting s.message.now s.from (O.size_of (behind_of s))
+
+abbrev pub stopped_in : Stretch → R.Fault → Evidence
+stopped_in s f = stopped s.message.now s.depth s.from s.end f
+
+abbrev pub evidence_in : Stretch → Evidence
+evidence_in s = evidence_at s.message.now s.depth s.from s.end
+
+-- the word of a kind that is asked for; no kind has 0
+abbrev pub word_asked : Option Kind → ℕ
+word_asked None = 0
+word_asked (Some k) = word_of k
+
+-- ---- places of objects
+abbrev pub first_place : List Stands → Option ℕ
+first_place [] = None
+first_place (x ∷ xs) = Some x.place
+
+abbrev pub second_place : List Stands → Option ℕ
+second_place [] = None
 second_place (x ∷ xs) = first_place xs
 
 -- of the earliest element that is not of the kind k
-unfoldable pub other_place : ℕ → List Stands → ℕ
+unfoldable pub other_place : ℕ → List Stands → Option ℕ
 unfolding if_eq
-other_place k [] = 0
-other_place k (x ∷ xs) = if_eq x.kind k (other_place k xs) (1 + x.place)
+other_place k [] = None
+other_place k (x ∷ xs) = if_eq x.kind k (other_place k xs) (Some x.place)
 
 abbrev pub places_of : ℕ → List Stands → Places
 places_of k es = record { first = first_place es; second = second_place es; other = other_place k es }
 
 abbrev pub nothing_of : Places
-nothing_of = record { first = 0; second = 0; other = 0 }
+nothing_of = record { first = None; second = None; other = None }
 
 unfoldable pub one_of : ℕ → ℕ → ℕ → Places
 unfolding if_eq
-one_of k j p = record { first = 1 + p; second = 0; other = if_eq j k 0 (1 + p) }
+one_of k j p = record { first = Some p; second = None; other = if_eq j k None (Some p) }
+
+-- where the second element stands, of a run whose first two these are, and then another run
+abbrev pub second_of : Option ℕ → Option ℕ → Option ℕ → Option ℕ → Option ℕ
+second_of None second later last = last
+second_of (Some p) second later last = option_or second later
 
 -- the one, then the other
-unfoldable pub plus_of : Places → Places → Places
-unfolding or_else second_of
+abbrev pub plus_of : Places → Places → Places
 plus_of a b =
     record {
-      first = or_else a.first b.first;
+      first = option_or a.first b.first;
       second = second_of a.first a.second b.first b.second;
-      other = or_else a.other b.other;
+      other = option_or a.other b.other;
     }
 
 unfoldable pub copies_of : ℕ → Places → Places
-unfolding if_eq plus_of
+unfolding if_eq
 copies_of n a = if_eq n 0 nothing_of (if_eq n 1 a (plus_of a a))
 
--- where this is answered, nothing that follows makes a difference
-abbrev pub Settled : Places → Bool → Type 0
-Settled a r = r ≡ true → (a.second ≢ 0) × (a.other ≢ 0)
-
 -- ---- an object in a run
-unfoldable pub wrap_piece : Wrap → ℕ → ℕ → Piece
-wrap_piece Struc a n = Item STRUC (a + n)
-wrap_piece Ustruc a n = Item STRUC (a + n)
-wrap_piece Edt a n = Item EDT (a + n)
-wrap_piece (Repeat k) a n = Copies k a n
+abbrev pub wrap_piece : Wrap → Extent → Piece
+wrap_piece Struc e = Item K.Struc (e.start + e.size)
+wrap_piece Ustruc e = Item K.Struc (e.start + e.size)
+wrap_piece Edt e = Item K.Edt (e.start + e.size)
+wrap_piece (Repeat k) e = Copies k e
 
 -- one element of the kind k, whatever comes behind it
 abbrev pub OneElement : O.Head → ℕ → ℕ → Type 0
@@ -87,11 +114,11 @@ OneElement h k u =
     (p : ℕ) (inside : ℕ → ℕ → List Stands) (rest : ℕ → List Stands)
     → elements_by p inside rest h ≡ record { kind = k; place = p } ∷ rest (p + 1 + u)
 
-abbrev pub PieceIs : ℕ → ℕ → List ℕ → Piece → Type 0
-PieceIs d b s Halt = (f : Fault) × (O.head_of d b s ≡ O.stop f)
-PieceIs d b s Skip = O.head_of d b s ≡ O.gives end 0
-PieceIs d b s (Item k u) = OneElement (O.head_of d b s) k u × (u ≤ length s)
-PieceIs d b s (Copies k a n) = (O.head_of d b s ≡ O.opens (O.repeated k) a n) × (a + n ≤ length s) × (d < 16)
+abbrev pub PieceIs : ℕ → ℕ → List ℕ → Result Piece Fault → Type 0
+PieceIs d b s (Err f) = O.head_of d b s ≡ O.stop (meant f)
+PieceIs d b s (Ok Skip) = O.head_of d b s ≡ O.gives end 0
+PieceIs d b s (Ok (Item k u)) = OneElement (O.head_of d b s) (word_of k) u × (u ≤ length s)
+PieceIs d b s (Ok (Copies k e)) = (O.head_of d b s ≡ O.opens (O.repeated k) e.start e.size) × (e.start + e.size ≤ length s) × (d < 16)
 
 -- ---- objects of one byte, from i up to r, within e
 -- CHARs, small INTs and padding
@@ -102,54 +129,57 @@ Singles m i r e = (i ≤ r) × (r ≤ e) × ((j : ℕ) → i ≤ j → j < r →
 abbrev pub OfKind : ℕ → ℕ → Type 0
 OfKind k b = ((k ≡ CHAR) × (b < 0x80)) ⊎ ((k ≡ INT) × (0x80 ≤ b) × (b < 0xc0))
 
--- padding; and, where s tells of a second element, those of the kind k
-abbrev pub Quiet : List ℕ → ℕ → ℕ → ℕ → ℕ → ℕ → Type 0
-Quiet m k s i r e = (i ≤ r) × (r ≤ e) × ((j : ℕ) → i ≤ j → j < r → (get_or m j 0 ≡ 0xff) ⊎ ((s ≢ 0) × OfKind k (get_or m j 0)))
+-- padding; and, where a second element is found, those of the kind k
+abbrev pub Quiet : List ℕ → Option Kind → Bool → ℕ → ℕ → ℕ → Type 0
+Quiet m k found i r e = (i ≤ r) × (r ≤ e) × ((j : ℕ) → i ≤ j → j < r → (get_or m j 0 ≡ 0xff) ⊎ ((found ≡ true) × OfKind (word_asked k) (get_or m j 0)))
 
 -- the bytes behind a type-byte begin with a size, and the contents that it tells lie within them
 abbrev pub SizeIn : List ℕ → Type 0
 SizeIn s = (h : ℕ) × (n : ℕ) × (O.size_of s ≡ O.size h n) × (h + n ≤ length s)
 
 -- ---- the evidence of a container, by places among its elements and what its first element is to an EDT (a string has a code of its own)
-unfoldable pub kinds_told : ℕ → ℕ → Evidence
-unfolding if_eq
-kinds_told first other = if_eq first 0 Nothing (if_eq other 0 Nothing (Kinds (first - 1) (other - 1)))
+abbrev pub kinds_told : Option ℕ → Option ℕ → Evidence
+kinds_told None other = Nothing
+kinds_told (Some p) None = Nothing
+kinds_told (Some p) (Some q) = Kinds p q
 
-unfoldable pub element_told : ℕ → ℕ → Evidence
-unfolding if_eq
-element_told which place = if_eq place 0 (NoElement which) (Element which (place - 1))
+abbrev pub element_told : ℕ → Option ℕ → Evidence
+element_told which None = NoElement which
+element_told which (Some p) = Element which p
 
-unfoldable pub kind_by : ℕ → ℕ
-unfolding if_eq
-kind_by l = if_eq l 9 STRUC l
+abbrev pub kind_by : Option Kind → Option Kind
+kind_by (Some K.String) = Some K.Struc
+kind_by l = l
+
+abbrev pub leads_edt : Option Kind → Bool
+leads_edt (Some K.Int) = true
+leads_edt (Some K.String) = true
+leads_edt l = false
 
 -- the first element, if there is one, is of the kind k
 abbrev pub FirstKind : List Stands → ℕ → Type 0
 FirstKind [] k = Unit {0}
 FirstKind (x ∷ xs) k = x.kind ≡ k
 
-unfoldable pub leads_edt : ℕ → Bool
-unfolding either
-leads_edt l = either (eqb l INT) (eqb l 9)
-
 -- ---- the descent
-abbrev pub StepIs : ℕ → ℕ → List ℕ → Step → Type 0
-StepIs d b s S.Halt = (f : Fault) × (O.head_of d b s ≡ O.stop f)
-StepIs d b s (S.Over u) = (xs : Items) × (O.head_of d b s ≡ O.gives xs u) × (u ≤ length s)
-StepIs d b s (S.Into a n) = (w : O.Wrap) × (O.head_of d b s ≡ O.opens w a n) × (a + n ≤ length s) × (d < 16)
+abbrev pub StepIs : ℕ → ℕ → List ℕ → Result Step Fault → Type 0
+StepIs d b s (Err f) = O.head_of d b s ≡ O.stop (meant f)
+StepIs d b s (Ok (Over u)) = (xs : Items) × (O.head_of d b s ≡ O.gives xs u) × (u ≤ length s)
+StepIs d b s (Ok (Into e)) = (w : O.Wrap) × (O.head_of d b s ≡ O.opens w e.start e.size) × (e.start + e.size ≤ length s) × (d < 16)
 
 abbrev pub RefusedAt : List ℕ → ℕ → Type 0
-RefusedAt m p = (f : Fault) × (outcome m ≡ refused f) × (f.place ≡ p)
+RefusedAt m p = (f : R.Fault) × (outcome m ≡ refused f) × (f.place ≡ p)
+
+-- the places that a trail has
+abbrev pub around_of : Trail → List ℕ
+around_of t = take t.len t.places
 
 -- where it ends: the containers that are open, and the object whose evidence it is
-pub record Descended (m : List ℕ) (s : Spot) : Type 0 where
-  pub sixteen : length s.trail ≡ 16
-  pub few : s.listed ≤ 16
-  pub shallow : s.depth ≤ 16
-  pub inside : s.at < s.end
-  pub within : s.end ≤ length m
-  pub around_is : take s.listed s.trail ≡ (why m).around
-  pub evidence_is : evidence_at m s.depth s.at s.end ≡ (why m).evidence
+pub record Descended (m : List ℕ) (object : Stretch) (trail : Trail) : Type 0 where
+  pub message_is : object.message.now ≡ m
+  pub inside : object.from < object.end
+  pub around_is : around_of trail ≡ (why m).around
+  pub evidence_is : evidence_in object ≡ (why m).evidence
 
 -- ---- the answer
 abbrev pub explain_told : Explaining → List ℕ → E.Numbers
@@ -174,7 +204,7 @@ told_of n k r e =
       second = (E.coded e).second;
     }
 
-unfoldable pub refused_told : List ℕ → Fault → List ℕ → E.Numbers
+unfoldable pub refused_told : List ℕ → R.Fault → List ℕ → E.Numbers
 unfolding E.in_numbers E.explained why
 refused_told m f l = E.in_numbers (E.explained (fault_answer f) (why m) l)
 

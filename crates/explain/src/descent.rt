@@ -3,108 +3,86 @@ ghost use Rattle.std.specs.Prelude.{◌≡◌, ◌≤◌, length};
 ghost use Rattle.format.specs.Refusals.{byte_limit};
 ghost use Rattle.explain.specs.Told.{StepIs, RefusedAt, Descended};
 
-use crate::stretch::singles_end;
+use crate::one_byte::singles_end;
+use crate::stretch::Stretch;
+use crate::trail::Trail;
+use format::Class;
+use format::fault::Fault;
+use format::tree::is;
 use wire::head::{Head, head_of};
-use wire::letters::is_repeat;
+use wire::size::Extent;
 
-// How far an object reaches: refused by its head; its bytes past the type-byte; or a container, where past the type-byte its contents
-// start, and their size.
+// How far an object reaches: its bytes past the type-byte; or a container, and its contents.
 #[derive(Clone, Copy)]
 pub enum Step {
-    Halt,
     Over(usize),
-    Into(usize, usize),
+    Into(Extent),
 }
 
-// Where a descent ends: the object's offset, the end of the bytes that it may have, and how many containers stand around it. The places
-// of those that are open around the fault are the first `listed` of the trail.
-#[derive(Clone, Copy)]
-pub struct Spot {
-    pub at: usize,
-    pub end: usize,
-    pub depth: usize,
-    pub listed: usize,
-    pub trail: [usize; 16],
-}
-
-fn step_of(depth: usize, b: u8, s: &[u8]) -> Step
+fn step_of(depth: usize, b: u8, s: &[u8]) -> Result<Step, Fault>
     requires { length s.now ≤ byte_limit }
     ensures { StepIs depth b s.now result }
 {
-    let h = head_of(depth, b, s);
-    match h {
-        Head::Stop(_) => Step::Halt,
-        Head::Gap => Step::Over(0),
-        Head::Row(_, _, past) => Step::Over(past),
-        Head::Sbits(_, _, past) => Step::Over(past),
-        Head::Lbits(_, _, past) => Step::Over(past),
-        Head::Text(a, n) => Step::Over(a + n),
-        Head::Open(_, a, n) => Step::Into(a, n),
+    let head = head_of(depth, b, s)?;
+    match head {
+        Head::Gap => Ok(Step::Over(0)),
+        Head::Row(_, _, past) | Head::Sbits(_, _, past) | Head::Lbits(_, _, past) => Ok(Step::Over(
+            past,
+        )),
+        Head::Text(e) => Ok(Step::Over(e.end())),
+        Head::Open(_, e) => Ok(Step::Into(e)),
     }
 }
 
 // A message that is refused at `place`. The object there is at fault; or it is a length or count, and the LBITSTR or REPEAT around it is
-// where the descent ends. A REPEAT is open around its count.
-pub fn descend(m: &[u8], place: usize) -> Spot
+// where the descent ends: from its type-byte up to the end of the bytes that it may have. The trail tells then what is open around the
+// fault; a REPEAT is open around its count.
+pub fn descend<'a>(m: &'a [u8], place: usize, trail: &mut Trail) -> Stretch<'a>
     requires m_len_bound { length m.now ≤ byte_limit }
     requires refused_at { RefusedAt m.now place }
-    ensures { Descended m.now result }
+    requires nothing_open { trail.old.len ≡ 0 }
+    ensures { Descended m.now result trail.new }
 {
-    let mut at: usize = 0;
+    let mut at = 0;
     let mut end = m.len();
-    let mut depth: usize = 0;
-    let mut trail = [0usize; 16];
+    // How far a turn goes depends on the object that it meets.
     while at < place {
-        let single = singles_end(m, at, end);
-        if single > at {
-            at = single;
+        if let Some(past) = singles_end(m, at, end) {
+            at = past;
             continue;
         }
-        let b = m[at];
-        let behind = at + 1;
-        let s = step_of(depth, b, &m[behind..end]);
-        match s {
-            Step::Halt => {
-                if is_repeat(b) {
-                    trail[depth] = at;
-                    return Spot {
-                        at,
-                        end,
-                        depth,
-                        listed: depth + 1,
-                        trail,
-                    };
-                }
-                return Spot {
-                    at,
-                    end,
-                    depth,
-                    listed: depth,
-                    trail,
-                };
+        let object = Stretch {
+            message: m,
+            depth: trail.len(),
+            from: at,
+            end,
+        };
+        let Ok(step) = step_of(object.depth, object.first(), object.behind()) else {
+            if is(Class::Repeat, object.first()) {
+                trail.push(at);
             }
+            return object;
+        };
+        match step {
             Step::Over(past) => {
-                at = behind + past;
+                at += 1 + past;
             }
-            Step::Into(a, n) => {
-                let from = behind + a;
-                let past = from + n;
-                if place < past {
-                    trail[depth] = at;
-                    depth += 1;
-                    at = from;
-                    end = past;
+            Step::Into(e) => {
+                let contents = object.inside(e);
+                if place < contents.end {
+                    trail.push(at);
+                    at = contents.from;
+                    end = contents.end;
                 } else {
-                    at = past;
+                    at = contents.end;
                 }
             }
         }
     }
-    Spot {
-        at,
+    Stretch {
+        message: m,
+        depth: trail.len(),
+        from: at,
         end,
-        depth,
-        listed: depth,
-        trail,
     }
 }

@@ -1,51 +1,53 @@
-// Objects of one byte, one behind another, passed many at a time.
-ghost use Rattle.std.specs.Prelude.{◌≤◌, ◌<◌, length};
-ghost use Rattle.explain.specs.Told.{Singles, Quiet};
+// A stretch of a message, by its place in the whole, with an object or a container's contents.
+ghost use Rattle.std.specs.Prelude.{◌≡◌, ◌+◌, ◌≤◌, ◌<◌, slice_index, length};
+ghost use Rattle.format.specs.Refusals.{byte_limit, depth_limit};
+ghost use Rattle.explain.specs.Reasons.{between};
 
-use format::kinds::{CHAR, INT};
-use wire::padding::padding_end;
-use wire::span::{chars_end, until};
+use wire::size::Extent;
 
-const PADDING: u8 = 0xff;
-
-// How far from i on there are only CHARs and small INTs, or only padding; i where another object stands.
-pub fn singles_end(m: &[u8], i: usize, end: usize) -> usize
-    requires { (i < end) × (end ≤ length m.now) }
-    ensures { Singles m.now i result end }
-{
-    let b = m[i];
-    if b == PADDING {
-        return padding_end(&m[0..end], i);
-    }
-    if b < 0xc0 {
-        return until(&m[0..end], i, 0, 0xbf);
-    }
-    i
+// The bytes of a message from `from` up to `end`, with `depth` containers around them.
+#[derive(Clone, Copy)]
+pub struct Stretch<'a> {
+    pub message: &'a [u8],
+    pub depth: usize,
+    pub from: usize,
+    pub end: usize,
+    pub ghost short: { length message.now ≤ byte_limit },
+    pub ghost within: { end ≤ length message.now },
+    pub ghost shallow: { depth ≤ depth_limit },
 }
 
-// How far from i on the bytes change nothing of what is told of the elements: padding; and, where a second element is found, CHARs or
-// small INTs of the kind asked for.
-pub fn quiet_end(m: &[u8], asked: u64, second: usize, i: usize, end: usize) -> usize
-    requires { (i < end) × (end ≤ length m.now) }
-    ensures { Quiet m.now asked second i result end }
-{
-    let b = m[i];
-    if b == PADDING {
-        return padding_end(&m[0..end], i);
+impl<'a> Stretch<'a> {
+    // The type-byte of the object that it begins with.
+    pub fn first(self) -> u8
+        requires { self.from < self.end }
+        ensures { result ≡ slice_index self.entry.message.now self.entry.from }
+    {
+        self.message[self.from]
     }
-    if second == 0 {
-        return i;
+
+    // The bytes behind that type-byte.
+    pub fn behind(self) -> &'a [u8]
+        requires { self.from < self.end }
+        ensures { result.now ≡ between self.entry.message.now (self.entry.from + 1) self.entry.end }
+    {
+        &self.message[self.from + 1..self.end]
     }
-    if asked == CHAR {
-        if b < 0x80 {
-            return chars_end(&m[0..end], i);
+
+    // The contents of the container that it begins with.
+    pub fn inside(self, e: Extent) -> Stretch<'a>
+        requires { (self.from + 1 + e.start + e.size ≤ self.end) × (self.depth < depth_limit) }
+        ensures message { result.message.now ≡ self.entry.message.now }
+        ensures depth { result.depth ≡ self.entry.depth + 1 }
+        ensures from { result.from ≡ self.entry.from + 1 + e.start }
+        ensures end { result.end ≡ self.entry.from + 1 + e.start + e.size }
+    {
+        let from = self.from + 1 + e.start;
+        Stretch {
+            message: self.message,
+            depth: self.depth + 1,
+            from,
+            end: from + e.size,
         }
-        return i;
     }
-    if asked == INT {
-        if b < 0xc0 {
-            return until(&m[0..end], i, 0x80, 0xbf);
-        }
-    }
-    i
 }

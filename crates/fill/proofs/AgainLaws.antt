@@ -74,8 +74,3 @@ repeated_step r k t₀ t t' j m h g q c e =
     let tb : t' ≡ over (again (j + m) l) t₀ =
     e ∙ ap (λ z. over_at (j * r) z t) f ∙ over_next (again j l) (again m l) t₀ t (j * r) c.table_is (sym lj) ∙ ap (λ z. over z t₀) (sym (again_add j m l)) in
     record { some = omega arith; upto = g; long = ap length tb ∙ over_length (again (j + m) l) t₀ (omega arith); table_is = tb }
-
-pub repeated_end : (r k : ℕ) (t₀ t : List ℕ) (j : ℕ) → k ≤ j → Repeated r k t₀ t j → t ≡ over (again k (take r t₀)) t₀
-repeated_end r k t₀ t j h c =
-    let e : j ≡ k = omega arith in
-    c.table_is ∙ ap (λ n. over (again n (take r t₀)) t₀) e

@@ -1,5 +1,5 @@
 -- A container closes over its elements' rows and data words as its items say. Assumes nothing.
-use Rattle.std.proofs.Common.{◌≡◌, ℕ, suc, ◌+◌, ◌-◌, ◌*◌, ◌<◌, ◌≤◌, Bool, true, false, List, [], ◌∷◌, ◌++◌, length, take, drop, sym, refl, ap, ◌∙◌, ap₂, append-nil, mul-le-mul_left, one-mul, add-one, arith, length-drop, length-take-le, take-take, drop-drop}
+use Rattle.std.proofs.Common.{◌≡◌, ℕ, suc, ◌+◌, ◌-◌, ◌*◌, ◌<◌, ◌≤◌, Bool, true, false, Ok, List, [], ◌∷◌, ◌++◌, length, take, drop, sym, refl, ap, ◌∙◌, ap₂, append-nil, mul-le-mul_left, one-mul, add-one, arith, length-drop, length-take, length-take-le, take-take, drop-drop}
 use Rattle.format.specs.Choice.{pick, both}
 use Rattle.format.specs.Items.{Group, struc, edt, Items, end, group, times, is_string, uniform, edt_rule}
 use Rattle.format.specs.Tables.{count, is_text, rows, text_words, data_words, container_kind, row_kind, group_b, row_words}
@@ -8,15 +8,16 @@ use Rattle.format.specs.Messages.{Outcome, refused, says, got, closing, around, 
 use Rattle.format.specs.Answers.{over}
 use Rattle.format.specs.Lent.{over_at}
 use Rattle.format.proofs.Choices.{clash, by_pick, pick_no}
-use Rattle.format.proofs.Parts.{rest_part, middle_part}
+use Rattle.format.proofs.Parts.{rest_part}
 use Rattle.format.specs.Runs.{object_at}
 use Rattle.format.proofs.Counts.{words, times_zero, rows_times, count_times, words_times, count_rows}
 use Rattle.format.proofs.TableLaws.{row_length}
 use Rattle.wire.specs.declared.head.Wrap.{Wrap}
 use Rattle.wire.specs.declared.head.Wrap.TheVariants.{Struc, Ustruc, Edt, Repeat}
 use Rattle.wire.specs.declared.head.Head.TheVariants.{Text, Open}
+use Rattle.wire.specs.declared.size.Extent.{Extent}
 use Rattle.wire.specs.Heads.{HeadIs, wrap_of}
-use Rattle.fill.specs.declared.walk.Filled.{Filled}
+use Rattle.fill.specs.declared.place.Filled.{Filled}
 use Rattle.fill.specs.Copies.{copies, again}
 use Rattle.fill.specs.Containers.{copies_of, own_words, is_struc, text_in, closed_items, kind_of, closed_group, closed_sums, closed_table, Repeatable, Closable}
 use Rattle.fill.specs.Texts.{contents_say}
@@ -63,28 +64,32 @@ around_said (Repeat k) a n (says xs) ys u e = (xs, refl, cc, cc)
 -- the contents as the code lends them on; those of a STRING are `raw`
 pub record Opened (raw : Bool) (d : ℕ) (s : List ℕ) (w : Wrap) (a n : ℕ) (ys : Items) (u : ℕ) : Type 0 where
   pub xs : Items
-  pub said : contents_say raw (d + 1) (take (a + n - a) (drop a s)) ≡ says xs
+  pub said : contents_say raw (d + 1) (O.contents s a n) ≡ says xs
   pub closes : ys ≡ closed_items w xs
   pub past : u ≡ a + n
   pub within : a + n ≤ length s
   pub struc : raw ≡ true → is_struc w ≡ true
 
 module _ (d b : ℕ) (s : List ℕ) where
-  pub opened : (w : Wrap) (a n : ℕ) (ys : Items) (u : ℕ) → HeadIs s (Open w a n) (O.head_of d b s) → object_at d b s ≡ got ys u → Opened false d s w a n ys u
-  unfolding object_at object O.contents Inner contents_say pick
-  opened w a n ys u h e =
-      let q = around_said w a n (reads (suc d) (take n (drop a s))) ys u (sym (ap (object (λ i m. reads (suc d) (O.contents s i m))) h.0) ∙ e) in
-      record { xs = q.0; said = rw (middle_part s a n, add-one d) q.1; closes = q.2; past = q.3; within = h.1; struc = λ y. clash false y refl }
+  pub opened : (w : Wrap) (e : Extent) (ys : Items) (u : ℕ) → HeadIs s (Ok (Open w e)) (O.head_of d b s) → object_at d b s ≡ got ys u → Opened false d s w e.start e.size ys u
+  unfolding object_at object Inner contents_say pick
+  opened w e ys u h g =
+      let q = around_said w e.start e.size (reads (suc d) (O.contents s e.start e.size)) ys u (sym (ap (object (λ i m. reads (suc d) (O.contents s i m))) h.0) ∙ g) in
+      record { xs = q.0; said = rw add-one q.1; closes = q.2; past = q.3; within = h.1; struc = λ y. clash false y refl }
 
-  pub opened_text : (a n : ℕ) (ys : Items) (u : ℕ) → HeadIs s (Text a n) (O.head_of d b s) → object_at d b s ≡ got ys u → Opened true d s Struc a n ys u
-  unfolding object_at object O.contents closed_items contents_say pick is_struc
-  opened_text a n ys u h e =
-      let c : List ℕ = take n (drop a s) in
+  pub opened_text : (e : Extent) (ys : Items) (u : ℕ) → HeadIs s (Ok (Text e)) (O.head_of d b s) → object_at d b s ≡ got ys u → Opened true d s Struc e.start e.size ys u
+  unfolding object_at object closed_items contents_say pick is_struc
+  opened_text e ys u h g =
+      let c : List ℕ = O.contents s e.start e.size in
       let p : ys ≡ group struc (O.characters c) end = cc in
-      let z : u ≡ a + n = cc in
-      record { xs = O.characters c; said = ap (λ l. says (O.characters l)) (middle_part s a n); closes = p; past = z; within = h.1; struc = λ y. refl }
+      let z : u ≡ e.start + e.size = cc in
+      record { xs = O.characters c; said = refl; closes = p; past = z; within = h.1; struc = λ y. refl }
 
-pub opened_run : {d : ℕ} {s : List ℕ} {w : Wrap} {a n : ℕ} {ys : Items} {u : ℕ} (o : Opened false d s w a n ys u) → reads (d + 1) (take (a + n - a) (drop a s)) ≡ says o.xs
+pub opened_shorter : {raw : Bool} {d : ℕ} {s : List ℕ} {w : Wrap} {a n : ℕ} {ys : Items} {u : ℕ} (o : Opened raw d s w a n ys u) → length (O.contents s a n) ≤ length s
+unfolding O.contents
+opened_shorter o = simp (length-take, length-drop) (omega arith)
+
+pub opened_run : {d : ℕ} {s : List ℕ} {w : Wrap} {a n : ℕ} {ys : Items} {u : ℕ} (o : Opened false d s w a n ys u) → reads (d + 1) (O.contents s a n) ≡ says o.xs
 unfolding contents_say pick
 opened_run o = o.said
 

@@ -1,5 +1,5 @@
 -- A container tried as a string, by its contents, and what they are where it is none. Assumes nothing.
-use Rattle.std.proofs.Common.{◌≡◌, ℕ, suc, ◌+◌, ◌-◌, ◌<◌, ◌≤◌, Bool, true, false, List, [], ◌∷◌, ◌++◌, length, take, drop, sym, refl, ap, ◌∙◌, ap₂, append-nil, arith}
+use Rattle.std.proofs.Common.{◌≡◌, ℕ, suc, ◌+◌, ◌<◌, ◌≤◌, Bool, true, false, Some, None, List, [], ◌∷◌, ◌++◌, length, take, drop, sym, refl, ap, ◌∙◌, ap₂, append-nil, arith}
 use Rattle.format.specs.Choice.{pick, both}
 use Rattle.format.specs.Items.{struc, Items, end, group, is_string}
 use Rattle.format.specs.Tables.{count, is_text, rows, text_words, data_words, group_b, row_words}
@@ -11,8 +11,8 @@ use Rattle.format.proofs.Choices.{clash, whether, pick_yes}
 use Rattle.format.proofs.TableLaws.{text_kind}
 use Rattle.wire.specs.declared.head.Wrap.{Wrap}
 use Rattle.wire.specs.declared.head.Wrap.TheVariants.{Struc, Ustruc, Edt, Repeat}
-use Rattle.fill.specs.declared.walk.Filled.{Filled}
-use Rattle.fill.specs.Texts.{contents_say, TextRoom, TextTried}
+use Rattle.fill.specs.declared.place.Filled.{Filled}
+use Rattle.fill.specs.Texts.{contents_say, TextRoom, TextLaid, TextTried, StringRoom, StringLaid}
 use Rattle.fill.specs.Containers.{copies_of, is_struc, text_in, own_words, closed_items}
 use Rattle.fill.specs.Contents.{ContentsFit, ContentsFilled}
 use Rattle.fill.specs.Walks.{Fits, Laid}
@@ -42,31 +42,33 @@ module _ (xs : Items) (k : is_string xs ≡ true) where
   string_fits : (base gap len : ℕ) → Fits (group struc xs end) base gap len → (3 ≤ gap) × (gap + (base + length (text_words xs)) ≤ len) × (base + length (text_words xs) ≤ 16384)
   string_fits base gap len f = let z = string_size in let e = ap length z.1 in (omega arith, omega arith, omega arith)
 
+  string_row : (base gap : ℕ) (t t' : List ℕ) (r : ℕ) → TextLaid xs base gap t t' r → Laid (group struc xs end) base gap t t' 1 1 r
+  unfolding count
+  string_row base gap t t' r l =
+      let z = string_size in
+      record {
+        rows_are = sym z.0;
+        count_is = refl;
+        words_are = l.words_are ∙ sym (ap length z.1);
+        front_is = l.front_is ∙ ap (λ l. over l (take gap t)) (sym (string_rows base));
+        back_is = l.back_is ∙ ap (λ l. over_at base l (drop gap t)) (sym z.1);
+      }
+
 -- a STRUC that is tried as a string, xs its elements
 module _ (o : Outcome) (is_one : Items → Bool) (xs : Items) (said : o ≡ says xs) (base gap : ℕ) where
-  module _ (t t' : List ℕ) (r : ℕ) (g : TextTried o is_one base gap t t' r) where
+  module _ (t t' : List ℕ) where
     -- it is one
-    tried_laid : (is_one xs ≡ true → is_string xs ≡ true) → 0 < r → (is_one xs ≡ true) × Laid (group struc xs end) base gap t t' 1 1 (r - 1)
-    unfolding count
-    tried_laid h p =
-        let k : is_one xs ≡ true = whether (is_one xs) (λ y. y) (λ n. absurd (omega (arith, ((g xs said).none n).0))) in
+    tried_laid : (r : ℕ) → TextTried o is_one base gap t t' (Some r) → (is_one xs ≡ true → is_string xs ≡ true) → (is_one xs ≡ true) × Laid (group struc xs end) base gap t t' 1 1 r
+    tried_laid r g h =
+        let k : is_one xs ≡ true = whether (is_one xs) (λ y. y) (λ n. let z = ((g xs said).none n).0 in cc) in
         let l = (g xs said).laid k in
-        let z = string_size xs (h k) in
-        let e = ap length z.1 in (
-          k,
-          record {
-            rows_are = sym z.0;
-            count_is = refl;
-            words_are = omega arith;
-            front_is = l.front_is ∙ ap (λ l. over l (take gap t)) (sym (string_rows xs (h k) base));
-            back_is = l.back_is ∙ ap (λ l. over_at base l (drop gap t)) (sym z.1);
-          },
-        )
+        let same : l.0 ≡ r = let z = l.1 in cc in
+        (k, string_row xs (h k) base gap t t' r (rw same at l.2))
 
     -- it is none
-    tried_none : r ≡ 0 → (is_one xs ≡ false) × (t' ≡ t)
-    tried_none z =
-        let n : is_one xs ≡ false = whether (is_one xs) (λ y. absurd (omega (arith, ((g xs said).laid y).words_are))) (λ n. n) in
+    tried_none : TextTried o is_one base gap t t' None → (is_one xs ≡ false) × (t' ≡ t)
+    tried_none g =
+        let n : is_one xs ≡ false = whether (is_one xs) (λ y. let z = ((g xs said).laid y).1 in cc) (λ n. n) in
         (n, ((g xs said).none n).1)
 
 -- a container that is tried as a string
@@ -95,30 +97,44 @@ module _ {raw : Bool} {d : ℕ} {c : List ℕ} {w : Wrap} {base gap : ℕ} {t : 
         room = λ y. let z = as_string w f.items y in string_fits f.items z.0 base gap (length t) (rw z.1 at f.fits);
       }
 
-  module _ {t₀ : List ℕ} {v : ℕ} (tr : TextTried (contents_say raw d c) (text_in w) base gap t t₀ v) where
+  module _ {t₀ : List ℕ} where
     -- they are a string's
-    pub string_laid : 0 < v → Laid (closed_items w f.items) base gap t t₀ 1 1 (v - 1)
-    string_laid q =
-        let l = tried_laid _ (text_in w) f.items f.said base gap t t₀ v tr (λ y. (as_string w f.items y).0) q in
+    pub string_laid : {v : ℕ} → TextTried (contents_say raw d c) (text_in w) base gap t t₀ (Some v) → Laid (closed_items w f.items) base gap t t₀ 1 1 v
+    string_laid {v} tr =
+        let l = tried_laid _ (text_in w) f.items f.said base gap t t₀ v tr (λ y. (as_string w f.items y).0) in
         rw (as_string w f.items l.0).1 l.1
 
-    pub string_filled : 0 < v → ContentsFilled raw d c w base gap t t₀ (record { rows = 1; count = 1; words = v - 1 })
-    string_filled q = record { items = f.items; said = f.said; laid = string_laid q }
+    pub string_filled : {v : ℕ} → TextTried (contents_say raw d c) (text_in w) base gap t t₀ (Some v) → ContentsFilled raw d c w base gap t t₀ (record { rows = 1; count = 1; words = v })
+    string_filled tr = record { items = f.items; said = f.said; laid = string_laid tr }
 
     -- they are none's, and the table is as it was
-    pub elements : v ≡ 0 → {own : ℕ} → own ≡ own_words w → 0 < copies_of w → Elements d c w f.items base gap own t₀ × (t₀ ≡ t)
-    elements z eo p =
-        let q = tried_none _ (text_in w) f.items f.said base gap t t₀ v tr z in
+    pub elements : TextTried (contents_say raw d c) (text_in w) base gap t t₀ None → {own : ℕ} → own ≡ own_words w → 0 < copies_of w → Elements d c w f.items base gap own t₀ × (t₀ ≡ t)
+    elements tr eo p =
+        let q = tried_none _ (text_in w) f.items f.said base gap t t₀ tr in
         (record { said = as_run raw d c w f.items f.said f.struc q.0; fits = rw q.1 f.fits; own_is = eo; some = p; other = q.0 }, q.1)
 
   pub elements_filled : {t₀ t' : List ℕ} {r : Filled} → t₀ ≡ t → Laid (closed_items w f.items) base gap t₀ t' r.rows r.count r.words
       → ContentsFilled raw d c w base gap t t' r
   elements_filled e l = record { items = f.items; said = f.said; laid = rw e at l }
 
--- a STRING's are
-pub raw_some : {d : ℕ} {c : List ℕ} {w : Wrap} {base gap : ℕ} {t t' : List ℕ} {v : ℕ} → ContentsFit true d c w base gap t
-    → TextTried (contents_say true d c) is_string base gap t t' v → 0 < v
-unfolding contents_say pick
-raw_some {d} {c} f tr =
-    let y : characters c ≡ f.items = cc in
-    omega (arith, ((tr f.items f.said).laid (ap is_string (sym y) ∙ chars_string c)).words_are)
+-- a STRING's are a string's
+module _ {d : ℕ} {c : List ℕ} {base gap : ℕ} {t : List ℕ} (f : ContentsFit true d c Struc base gap t) where
+  raw_text_is : is_string f.items ≡ true
+  unfolding contents_say pick
+  raw_text_is = let y : characters c ≡ f.items = let e = f.said in cc in ap is_string (sym y) ∙ chars_string c
+
+  -- at any depth
+  raw_said : contents_say true 0 c ≡ says f.items
+  unfolding contents_say pick
+  raw_said = f.said
+
+  pub raw_room : StringRoom true 0 c base gap t
+  unfolding closed_items
+  raw_room = record { items = f.items; said = raw_said; chars = raw_text_is; room = string_fits f.items raw_text_is base gap (length t) f.fits }
+
+  pub raw_laid : {t' : List ℕ} {v : ℕ} → StringLaid true 0 c base gap t t' v → Laid (closed_items Struc f.items) base gap t t' 1 1 v
+  unfolding closed_items
+  raw_laid {t'} {v} l =
+      let q : says l.items ≡ says f.items = sym l.said ∙ raw_said in
+      let same : l.items ≡ f.items = cc in
+      string_row f.items raw_text_is base gap t t' v (rw same at l.laid)

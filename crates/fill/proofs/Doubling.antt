@@ -71,22 +71,22 @@ rebased_more w t i d h =
     let l : length (take i t) ≡ 3 * (i / 3) = omega (arith, length-take-le i t (omega arith)) in
     ap (rebased w) (take_row t i h) ∙ rebased_append w (i / 3) (take i t) (get_or t i 0 ∷ get_or t (i + 1) 0 ∷ get_or t (i + 2) 0 ∷ []) l ∙ (unfold rebased in refl)
 
--- so many words of the round are there
-pub record Rebasing (w to n : ℕ) (t₀ t : List ℕ) (i : ℕ) : Type 0 where
-  pub whole : i % 3 ≡ 0
-  pub upto : i ≤ n
+-- so many rows of the round are there
+pub record Rebasing (w to r : ℕ) (t₀ t : List ℕ) (j : ℕ) : Type 0 where
+  pub upto : j ≤ r
   pub long : length t ≡ length t₀
-  pub table_is : t ≡ over_at to (rebased w (take i t₀)) t₀
+  pub table_is : t ≡ over_at to (rebased w (take (3 * j) t₀)) t₀
 
-pub rebasing_start : (w to n : ℕ) (t : List ℕ) → Rebasing w to n t t 0
+pub rebasing_start : (w to r : ℕ) (t : List ℕ) → Rebasing w to r t t 0
 unfolding rebased
-rebasing_start w to n t =
-    record { whole = refl; upto = omega arith; long = refl; table_is = sym (at_none to t) }
+rebasing_start w to r t =
+    record { upto = omega arith; long = refl; table_is = sym (at_none to t) }
 
-pub rebasing_step : (w to n : ℕ) (t₀ t : List ℕ) (i v0 v1 v2 : ℕ) → n % 3 ≡ 0 → n ≤ to → to + n ≤ length t₀ → i < n → Rebasing w to n t₀ t i
-    → v0 ≡ get_or t i 0 → v1 ≡ get_or t (i + 1) 0 → v2 ≡ shift w (get_or t i 0) (get_or t (i + 2) 0)
-    → Rebasing w to n t₀ (set (set (set t (to + i) v0) (to + i + 1) v1) (to + i + 2) v2) (i + 3)
-rebasing_step w to n t₀ t i v0 v1 v2 d g h q c p0 p1 p2 =
+pub rebasing_step : (w to r : ℕ) (t₀ t : List ℕ) (j v0 v1 v2 : ℕ) → 3 * r ≤ to → to + 3 * r ≤ length t₀ → j < r → Rebasing w to r t₀ t j
+    → v0 ≡ get_or t (3 * j) 0 → v1 ≡ get_or t (3 * j + 1) 0 → v2 ≡ shift w (get_or t (3 * j) 0) (get_or t (3 * j + 2) 0)
+    → Rebasing w to r t₀ (set (set (set t (to + 3 * j) v0) (to + 3 * j + 1) v1) (to + 3 * j + 2) v2) (j + 1)
+rebasing_step w to r t₀ t j v0 v1 v2 g h q c p0 p1 p2 =
+    let i : ℕ = 3 * j in
     let m : List ℕ = rebased w (take i t₀) in
     let u0 = unread t₀ m t to i (omega arith) (omega arith) c.table_is in
     let u1 = unread t₀ m t to (i + 1) (omega arith) (omega arith) c.table_is in
@@ -94,24 +94,19 @@ rebasing_step w to n t₀ t i v0 v1 v2 d g h q c p0 p1 p2 =
     let lm : length m ≡ i = rebased_length w (take i t₀) ∙ length-take-le i t₀ (omega arith) in
     let x0 : ℕ = get_or t₀ i 0 in
     let x2 : ℕ = get_or t₀ (i + 2) 0 in
+    let n : i + 3 ≡ 3 * (j + 1) = omega arith in
     let tb : set (set (set t (to + i) v0) (to + i + 1) v1) (to + i + 2) v2 ≡ over_at to (rebased w (take (i + 3) t₀)) t₀ =
     set_three (to + i) t v0 v1 v2 (omega arith)
     ∙ at_next to m (v0 ∷ v1 ∷ v2 ∷ []) t₀ t (to + i) (omega arith) c.table_is (omega arith)
     ∙ ap (λ z. over_at to z t₀)
     (ap (λ z. m ++ z) (ap₂ (λ y z. y ∷ v1 ∷ z ∷ []) (p0 ∙ u0) (p2 ∙ ap₂ (shift w) u0 u2) ∙ ap (λ y. x0 ∷ y ∷ shift w x0 x2 ∷ []) (p1 ∙ u1))
-    ∙ sym (rebased_more w t₀ i c.whole (omega arith))) in
+    ∙ sym (rebased_more w t₀ i (omega arith) (omega arith))) in
     let l3 : length (rebased w (take (i + 3) t₀)) ≡ i + 3 = rebased_length w (take (i + 3) t₀) ∙ length-take-le (i + 3) t₀ (omega arith) in
     record {
-      whole = omega arith;
       upto = omega arith;
       long = ap length tb ∙ at_length to (rebased w (take (i + 3) t₀)) t₀ (omega arith);
-      table_is = tb;
+      table_is = tb ∙ ap (λ z. over_at to (rebased w (take z t₀)) t₀) n;
     }
-
-pub rebasing_end : (w to n : ℕ) (t₀ t : List ℕ) (i : ℕ) → n ≤ i → Rebasing w to n t₀ t i → t ≡ over_at to (rebased w (take n t₀)) t₀
-rebasing_end w to n t₀ t i h c =
-    let e : i ≡ n = omega arith in
-    c.table_is ∙ ap (λ m. over_at to (rebased w (take m t₀)) t₀) e
 
 -- of words alone
 pub record Taking (to n : ℕ) (t₀ t : List ℕ) (i : ℕ) : Type 0 where
@@ -139,11 +134,6 @@ taking_step to n t₀ t i v g h q c p =
       table_is = tb;
     }
 
-pub taking_end : (to n : ℕ) (t₀ t : List ℕ) (i : ℕ) → n ≤ i → Taking to n t₀ t i → t ≡ over_at to (take n t₀) t₀
-taking_end to n t₀ t i h c =
-    let e : i ≡ n = omega arith in
-    c.table_is ∙ ap (λ m. over_at to (take m t₀) t₀) e
-
 -- ---- round after round
 -- so many copies are there
 pub record Doubled (w r k : ℕ) (t₀ t : List ℕ) (j : ℕ) : Type 0 where
@@ -159,16 +149,13 @@ doubled_start w r k t p =
 
 -- what a round asks for
 abbrev pub RoundRoom : ℕ → ℕ → ℕ → ℕ → Type 0
-RoundRoom r j m len = (3 * (m * r) % 3 ≡ 0) × (3 * (m * r) ≤ 3 * (j * r)) × (3 * (j * r) + 3 * (m * r) ≤ len)
+RoundRoom r j m len = (3 * (m * r) ≤ 3 * (j * r)) × (3 * (j * r) + 3 * (m * r) ≤ len)
 
 pub round_room : (r k j m len : ℕ) → 3 * (k * r) ≤ len → j + m ≤ k → m ≤ j → RoundRoom r j m len
 round_room r k j m len h g q =
     let a = mul-le-mul_right r g in
     let b = mul-le-mul_right r q in
-    (omega arith, omega arith, omega arith)
-
-pub base_few : (w k j : ℕ) → k * w ≤ 16384 → j ≤ k → j * w ≤ 16384
-base_few w k j h g = let a = mul-le-mul_right w g in omega arith
+    (omega arith, omega arith)
 
 pub doubled_step : (w r k : ℕ) (t₀ t t' : List ℕ) (j m : ℕ) → 3 * (k * r) ≤ length t₀ → 0 < m → j + m ≤ k → m ≤ j → Doubled w r k t₀ t j
     → t' ≡ over_at (3 * (j * r)) (rebased (j * w) (take (3 * (m * r)) t)) t → Doubled w r k t₀ t' (j + m)
@@ -191,8 +178,3 @@ doubled_step w r k t₀ t t' j m h p g q c e =
     let ls : length (copies w (j + m) l) ≡ 3 * ((j + m) * r) = copies_length w r (j + m) l ll in
     let some = c.some in
     record { some = omega arith; upto = g; long = ap length tb ∙ over_length (copies w (j + m) l) t₀ (omega arith); table_is = tb }
-
-pub doubled_end : (w r k : ℕ) (t₀ t : List ℕ) (j : ℕ) → k ≤ j → Doubled w r k t₀ t j → t ≡ over (copies w k (take (3 * r) t₀)) t₀
-doubled_end w r k t₀ t j h c =
-    let e : j ≡ k = omega arith in
-    c.table_is ∙ ap (λ n. over (copies w n (take (3 * r) t₀)) t₀) e

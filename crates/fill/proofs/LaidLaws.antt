@@ -1,10 +1,16 @@
 -- What is laid out: nothing at all, and that the table keeps its length. Assumes nothing.
-use Rattle.std.proofs.Common.{◌≡◌, ℕ, ◌-◌, List, length, take, drop, sym, refl, ap, ◌∙◌, arith, length-append, length-drop, take-append-drop, length-take-le}
+use Rattle.std.proofs.Common.{◌≡◌, ℕ, ◌-◌, List, length, take, drop, sym, refl, ap, ◌∙◌, ap₂, arith, length-append, length-drop, take-append-drop, length-take-le}
 use Rattle.format.specs.Items.{Items, end}
 use Rattle.format.specs.Tables.{count, rows, data_words, row_words}
 use Rattle.format.proofs.TableLaws.{row_length}
+use Rattle.fill.specs.declared.place.Filled.{Filled}
 use Rattle.fill.specs.Walks.{Fits, Laid}
 use Rattle.format.proofs.Over.{over_none, over_length, at_none, at_length}
+
+-- nothing at all, as the code makes it
+pub nothing : (f : Filled) → (f.rows ≡ 0) × ((f.count ≡ 0) × (f.words ≡ 0)) → f ≡ record { rows = 0; count = 0; words = 0 }
+nothing f e =
+    ap (λ n. record { rows = n; count = f.count; words = f.words }) e.0 ∙ ap₂ (λ m n. record { rows = 0; count = m; words = n }) e.1.0 e.1.1
 
 pub laid_none : (base gap : ℕ) (t : List ℕ) → Laid end base gap t t 0 0 0
 unfolding rows count data_words row_words

@@ -1,5 +1,5 @@
 -- Bytes without their high bits, as codes and as words of codes. Assumes nothing.
-use Rattle.std.proofs.Common.{◌≡◌, ℕ, zero, suc, ◌+◌, ◌-◌, ◌*◌, ◌%◌, ◌^◌, ◌<◌, ◌≤◌, List, [], ◌∷◌, ◌++◌, length, get_or, take, drop, replicate, sym, refl, ap, ◌∙◌, ap₂, mod-eq_of_lt, arith, length-drop, length-take-le, take_all, take-take, take-add}
+use Rattle.std.proofs.Common.{◌≡◌, ℕ, zero, suc, ◌+◌, ◌-◌, ◌*◌, ◌%◌, ◌^◌, ◌<◌, ◌≤◌, List, [], ◌∷◌, ◌++◌, length, get_or, take, drop, replicate, sym, refl, ap, ◌∙◌, ap₂, mod-eq_of_lt, arith, length-drop, length-take-le, take_all, take-add}
 use lib.Bits.{bit_and, and_mask}
 use Rattle.format.specs.Numbers.{Bytes, val}
 use Rattle.format.specs.Bits.{num, spread}
@@ -12,7 +12,7 @@ use Rattle.format.proofs.MaskLaws.{mask, masked, and_mask_bytes}
 use Rattle.wire.specs.WordsAt.{word_at}
 use Rattle.wire.proofs.WordLaws.{word_val}
 use Rattle.fill.specs.Texts.{lows, word_of, Spelt, PutSome}
-use Rattle.fill.proofs.Letters.{spelt_more}
+use Rattle.fill.proofs.Letters.{spelt_none, spelt_more}
 
 -- ---- bytes as codes
 pub lows_append : (a b : List ℕ) → lows (a ++ b) ≡ lows a ++ lows b
@@ -78,14 +78,13 @@ low_word c i w small h e =
     let v : val (lows p) * 1 ≡ word_of (lows p) = bytes_word (lows p) 8 (lows_bytes p) (lows_length p ∙ l) (omega arith) in
     low_bits p b w (omega arith) (e ∙ word_val c i h) ∙ omega arith
 
-pub low_some : (c : List ℕ) (k w : ℕ) → ((j : ℕ) → get_or c j 0 < 256) → k ≤ 8 → k ≤ length c → w ≡ val (take k c)
-    → bit_and w 0x7f7f7f7f7f7f7f7f * 2 ^ (64 - 8 * k) % 2 ^ 64 ≡ word_of (lows (take k c))
-low_some c k w small h g e =
-    let p : List ℕ = take k c in
-    let l : length p ≡ k = length-take-le k c g in
-    let b : Bytes p = bytes_take k c (bytes_of c small) in
-    ap (λ x. x * 2 ^ (64 - 8 * k) % 2 ^ 64) (low_bits p b w (omega arith) e)
-    ∙ ap (λ x. x % 2 ^ 64) (bytes_word (lows p) k (lows_bytes p) (lows_length p ∙ l) h) ∙ mod-eq_of_lt (adjusted_lt 64 (spread 8 (lows p)))
+pub low_some : (c : List ℕ) (w : ℕ) → ((j : ℕ) → get_or c j 0 < 256) → length c ≤ 8 → w ≡ val (take (length c) c)
+    → bit_and w 0x7f7f7f7f7f7f7f7f * 2 ^ (64 - 8 * length c) % 2 ^ 64 ≡ word_of (lows c)
+low_some c w small h e =
+    let k : ℕ = length c in
+    let b : Bytes c = bytes_of c small in
+    ap (λ x. x * 2 ^ (64 - 8 * k) % 2 ^ 64) (low_bits c b w h (e ∙ ap val (take_all k c (omega arith))))
+    ∙ ap (λ x. x % 2 ^ 64) (bytes_word (lows c) k (lows_bytes c) (lows_length c) h) ∙ mod-eq_of_lt (adjusted_lt 64 (spread 8 (lows c)))
 
 -- ---- bytes after bytes
 -- k of them behind i
@@ -98,13 +97,30 @@ low_more c n i k v t₀ t u h e p q =
     let j : lows (take (i + k) c) ≡ lows (take i c) ++ d = ap lows (take-add i k c) ∙ lows_append (take i c) (take k (drop i c)) in
     rw j (spelt_more n (n + i) (lows (take i c)) d t₀ t u p l (q d ld e))
 
--- the rest
-pub low_rest : (c : List ℕ) (n i v : ℕ) (t₀ t u : List ℕ) → i ≤ length c → v ≡ word_of (lows (take (length c - i) (take (length c - i) (drop i c))))
-    → Spelt n (lows (take i c)) t₀ t → PutSome (n + i) (length c - i) v t u → Spelt n (lows c) t₀ u
+-- the rest, behind eight at a time
+pub low_rest : (c : List ℕ) (n i v : ℕ) (t₀ t u : List ℕ) → i ≤ length c → v ≡ word_of (lows (take (length c - i) (drop i c)))
+    → Spelt n (lows (take i c)) t₀ t → PutSome (n + i) (length (take (length c - i) (drop i c))) v t u → Spelt n (lows c) t₀ u
 low_rest c n i v t₀ t u h e p q =
     let k : ℕ = length c - i in
-    let r = low_more c n i k v t₀ t u (omega arith) (e ∙ ap (λ x. word_of (lows x)) (take-take k k (drop i c) (omega arith))) p q in
+    let l : length (take k (drop i c)) ≡ k = length-take-le k (drop i c) (omega (arith, length-drop i c)) in
+    let r = low_more c n i k v t₀ t u (omega arith) e p (rw l at q) in
     rw (take_all (i + k) c (omega arith)) at r
 
 pub low_end : (c : List ℕ) (n i : ℕ) (t₀ t : List ℕ) → length c ≤ i → Spelt n (lows (take i c)) t₀ t → Spelt n (lows c) t₀ t
 low_end c n i t₀ t h p = rw (take_all i c h) at p
+
+-- so many words of eight are there
+pub record Eighths (c : List ℕ) (n : ℕ) (t₀ t : List ℕ) (j : ℕ) : Type 0 where
+  pub long : length t ≡ length t₀
+  pub spelt : Spelt n (lows (take (8 * j) c)) t₀ t
+
+pub eighths_start : (c : List ℕ) (n : ℕ) (t : List ℕ) → Eighths c n t t 0
+unfolding codes characters
+eighths_start c n t = record { long = refl; spelt = spelt_none n t }
+
+pub eighths_more : (c : List ℕ) (n : ℕ) (t₀ t u : List ℕ) (j v : ℕ) → 8 * j + 8 ≤ length c → v ≡ word_of (lows (take 8 (drop (8 * j) c)))
+    → Eighths c n t₀ t j → length u ≡ length t → PutSome (n + 8 * j) 8 v t u → Eighths c n t₀ u (j + 1)
+eighths_more c n t₀ t u j v h e p l q =
+    let k : 8 * j + 8 ≡ 8 * (j + 1) = omega arith in
+    let long = p.long in
+    record { long = omega arith; spelt = rw k at (low_more c n (8 * j) 8 v t₀ t u h e p.spelt q) }

@@ -1,15 +1,20 @@
 -- One object of the walk: what it asks, and what it writes. Assumes nothing.
-use Rattle.std.proofs.Common.{◌≡◌, ℕ, ◌+◌, ◌-◌, ◌≤◌, Bool, List, ◌++◌, length, take, drop, sym, ap, ◌∙◌, ap₂, arith}
+use Rattle.std.proofs.Common.{◌≡◌, ℕ, suc, ◌+◌, ◌-◌, ◌≤◌, Bool, Ok, Err, List, ◌++◌, length, take, drop, sym, ap, ◌∙◌, ap₂, arith}
 use Rattle.format.specs.Items.{end}
 use Rattle.format.specs.Objects as O
-use Rattle.format.specs.Messages.{got}
+use Rattle.format.specs.Messages.{bad, got, object, reads}
+use Rattle.format.specs.Runs.{object_at}
+use Rattle.format.specs.Refused.{meant}
+use Rattle.format.specs.declared.fault.Fault.{Fault}
 use Rattle.format.specs.Answers.{over}
 use Rattle.format.proofs.TableLaws.{row_length}
+use Rattle.wire.specs.declared.size.Extent.{Extent}
 use Rattle.wire.specs.declared.head.Head.{Head}
 use Rattle.wire.specs.declared.head.Head.TheVariants.{Text, Open}
 use Rattle.wire.specs.declared.head.Wrap.{Wrap}
 use Rattle.wire.specs.Heads.{HeadIs}
-use Rattle.fill.specs.declared.plain.Placed.{Placed}
+use Rattle.fill.specs.declared.place.Filled.{Filled}
+use Rattle.fill.specs.declared.place.Placed.{Placed}
 use Rattle.fill.specs.Plain.{plain_rows, plain_words, placed_as, plain_placed}
 use Rattle.fill.specs.Containers.{copies_of, closed_items}
 use Rattle.fill.specs.Contents.{ContentsFit}
@@ -25,8 +30,16 @@ module _ {d b : ℕ} {s : List ℕ} {base gap : ℕ} {t : List ℕ} (f : ObjectF
   pub data_at_lem : (gap + base ≤ length t) × (gap + base ≤ 65536)
   data_at_lem = (omega arith, omega arith)
 
+  -- it has a head
+  pub stopped : (x : Fault) → HeadIs s (Err x) (O.head_of d b s) → ⊥
+  unfolding object_at object
+  stopped x e =
+      let g : bad (meant x) ≡ got f.items f.past = sym (ap (object (λ i n. reads (suc d) (O.contents s i n))) e) ∙ f.said in
+      let z : ◌≡◌ {A = ℕ} 0 1 = cc in
+      omega arith
+
   -- no container and no string
-  module _ (h : Head) (nt : (a n : ℕ) → h ≡ Text a n → ⊥) (ko : (w : Wrap) (a n : ℕ) → h ≡ Open w a n → ⊥) (e : HeadIs s h (O.head_of d b s)) where
+  module _ (h : Head) (nt : (x : Extent) → h ≡ Text x → ⊥) (ko : (w : Wrap) (x : Extent) → h ≡ Open w x → ⊥) (e : HeadIs s (Ok h) (O.head_of d b s)) where
     shown : Shown s h f.items f.past
     shown = object_shown d b s f.items f.past f.said h nt ko e
 
@@ -55,9 +68,9 @@ module _ {d b : ℕ} {s : List ℕ} {base gap : ℕ} {t : List ℕ} (f : ObjectF
             items = f.items;
             said = f.said ∙ ap (got f.items) (sym (ap (λ x. x.past) m));
             laid = record {
-              rows_are = ap (λ x. x.rows) m;
-              count_is = ap (λ x. x.count) m;
-              words_are = ap (λ x. x.words) m;
+              rows_are = ap (λ x. x.filled.rows) m;
+              count_is = ap (λ x. x.filled.count) m;
+              words_are = ap (λ x. x.filled.words) m;
               front_is = ap (take gap) q ∙ front_over gap (plain_rows s base h) T rows_few
                   ∙ ap₂ over (sym (shown.rows_are base)) (ap (take gap) came ∙ front_at gap base (plain_words s h) t data_at_lem.0);
               back_is = ap (drop gap) q ∙ back_over gap (plain_rows s base h) T rows_few ∙ ap (drop gap) came
@@ -67,18 +80,18 @@ module _ {d b : ℕ} {s : List ℕ} {base gap : ℕ} {t : List ℕ} (f : ObjectF
 
   -- a container or a STRING, by its contents
   module _ {raw : Bool} {w : Wrap} {a n : ℕ} (o : Opened raw d s w a n f.items f.past) where
-    abbrev pub contents : ContentsFit raw (d + 1) (take (a + n - a) (drop a s)) w base gap t
+    abbrev pub contents : ContentsFit raw (d + 1) (O.contents s a n) w base gap t
     contents = record { items = o.xs; said = o.said; fits = rw o.closes at f.fits; struc = o.struc }
 
-    pub none_filled : {k : ℕ} → k ≡ copies_of w → k ≡ 0 → ObjectFilled d b s base gap t t (placed_as 0 0 0 (a + n))
-    none_filled ek z =
+    pub none_filled : {e k : ℕ} → e ≡ a + n → k ≡ copies_of w → k ≡ 0 → ObjectFilled d b s base gap t t (placed_as 0 0 0 e)
+    none_filled ee ek z =
         record {
           items = end;
-          said = f.said ∙ ap₂ got (o.closes ∙ closed_none w o.xs (sym ek ∙ z)) o.past;
+          said = f.said ∙ ap₂ got (o.closes ∙ closed_none w o.xs (sym ek ∙ z)) (o.past ∙ sym ee);
           laid = laid_none base gap t;
         }
 
     -- laid out, in the table as it was after a try
-    pub open_filled : {t₀ t' : List ℕ} {i j k : ℕ} {r : Placed} → t₀ ≡ t → Laid (closed_items w o.xs) base gap t₀ t' i j k → r ≡ placed_as i j k (a + n)
-        → ObjectFilled d b s base gap t t' r
-    open_filled e l p = rw p (record { items = closed_items w o.xs; said = f.said ∙ ap₂ got o.closes o.past; laid = rw e at l })
+    pub open_filled : {t₀ t' : List ℕ} {r : Filled} {e : ℕ} → t₀ ≡ t → Laid (closed_items w o.xs) base gap t₀ t' r.rows r.count r.words → e ≡ a + n
+        → ObjectFilled d b s base gap t t' (record { filled = r; past = e })
+    open_filled q l ee = record { items = closed_items w o.xs; said = f.said ∙ ap₂ got o.closes (o.past ∙ sym ee); laid = rw q at l }

@@ -1,5 +1,5 @@
 -- An object that is no container: its rows and its data words, by its head. Assumes nothing.
-use Rattle.std.proofs.Common.{◌≡◌, ℕ, suc, ◌+◌, ◌-◌, ◌/◌, ◌<◌, ◌≤◌, Bool, List, [], ◌∷◌, ◌++◌, length, take, drop, sym, refl, ap, ◌∙◌, subst, append-nil, arith}
+use Rattle.std.proofs.Common.{◌≡◌, ℕ, suc, ◌+◌, ◌-◌, ◌/◌, ◌<◌, ◌≤◌, Bool, Ok, List, [], ◌∷◌, ◌++◌, length, take, drop, sym, refl, ap, ◌∙◌, subst, append-nil, arith, ◌⊎◌, inl, inr}
 use Rattle.format.specs.Bits.{spread, packed, bytes_for, words_for}
 use Rattle.format.specs.Items.{Leaf, bits, Items, end, one, leaf_kind}
 use Rattle.format.specs.Tables.{count, rows, in_words, leaf_words, data_words, leaf_a, leaf_b, row_words}
@@ -9,9 +9,12 @@ use Rattle.format.specs.Messages.{Outcome, got, object, reads}
 use Rattle.format.proofs.Choices.{split}
 use Rattle.format.specs.Runs.{object_at}
 use Rattle.format.proofs.BitLaws.{packed_length}
+use Rattle.format.specs.declared.kinds.Kind.{Kind}
+use Rattle.format.specs.Kinds.{word_of}
+use Rattle.wire.specs.declared.size.Extent.{Extent}
 use Rattle.wire.specs.declared.head.Wrap.{Wrap}
 use Rattle.wire.specs.declared.head.Head.{Head}
-use Rattle.wire.specs.declared.head.Head.TheVariants.{Stop, Gap, Row, Sbits, Lbits, Text, Open}
+use Rattle.wire.specs.declared.head.Head.TheVariants.{Gap, Row, Sbits, Lbits, Text, Open}
 use Rattle.wire.specs.Heads.{HeadIs, IsRow, IsSbits, bits_from}
 use Rattle.fill.specs.Plain.{Apt, plain_rows, plain_words, placed_as, plain_placed}
 use Rattle.wire.proofs.HeadLaws.{lbits_length}
@@ -26,7 +29,7 @@ shown_gap : (s : List ℕ) → Shown s Gap end 0
 unfolding row_words plain_rows data_words plain_words plain_placed rows count
 shown_gap s = record { rows_are = λ base. refl; words_are = refl; placed_is = refl }
 
-shown_row : (s : List ℕ) (l : Leaf) (k v u : ℕ) → IsRow l k v → Shown s (Row k v u) (one l) u
+shown_row : (s : List ℕ) (l : Leaf) (k : Kind) (v u : ℕ) → IsRow l (word_of k) v → Shown s (Row k v u) (one l) u
 unfolding row_words plain_rows data_words plain_words plain_placed rows count
 shown_row s l k v u r =
     let d : leaf_words l ++ [] ≡ [] = append-nil (leaf_words l) ∙ r.none in
@@ -56,15 +59,14 @@ sbits_words bs n w r =
     (λ z. let e : (n + 63) / 64 ≡ 0 = omega arith in rw e refl)
 
 -- ---- by the code's head
-pub head_apt : (s : List ℕ) (h : Head) (m : O.Head) → HeadIs s h m → Apt s h
+pub head_apt : (s : List ℕ) (h : Head) (m : O.Head) → HeadIs s (Ok h) m → Apt s h
 unfolding Apt
-head_apt s (Stop f) m e = tt
 head_apt s Gap m e = tt
 head_apt s (Row k v u) m e = tt
 head_apt s (Sbits n w u) m e = e.2.few
 head_apt s (Lbits a n u) m e = (e.1, e.2)
-head_apt s (Text a n) m e = tt
-head_apt s (Open w a n) m e = tt
+head_apt s (Text x) m e = tt
+head_apt s (Open w x) m e = tt
 
 module _ (s : List ℕ) (inside : ℕ → ℕ → Outcome) (xs : Items) (u : ℕ) where
   given : (h : Head) (m : O.Head) (ys : Items) (v : ℕ) → m ≡ O.gives ys v → object inside m ≡ got xs u → Shown s h ys v → Shown s h xs u
@@ -74,11 +76,8 @@ module _ (s : List ℕ) (inside : ℕ → ℕ → Outcome) (xs : Items) (u : ℕ
       let q : v ≡ u = cc in
       subst (λ z. Shown s h z u) p (subst (Shown s h ys) q r)
 
-  plain_shown : (h : Head) (m : O.Head) → ((a n : ℕ) → h ≡ Text a n → ⊥) → ((w : Wrap) (a n : ℕ) → h ≡ Open w a n → ⊥) → HeadIs s h m → object inside m ≡ got xs u → Shown s h xs u
+  plain_shown : (h : Head) (m : O.Head) → ((x : Extent) → h ≡ Text x → ⊥) → ((w : Wrap) (x : Extent) → h ≡ Open w x → ⊥) → HeadIs s (Ok h) m → object inside m ≡ got xs u → Shown s h xs u
   unfolding object plain_words plain_rows plain_placed
-  plain_shown (Stop x) m nt ko e f =
-      let z : ◌≡◌ {A = ℕ} 0 1 = cc in
-      absurd (omega arith)
   plain_shown Gap m nt ko e f = given Gap m end 0 e f (shown_gap s)
   plain_shown (Row k v w) m nt ko e f = given (Row k v w) m (one e.0) w e.1 f (shown_row s e.0 k v w e.2)
   plain_shown (Sbits n w v) m nt ko e f =
@@ -87,41 +86,50 @@ module _ (s : List ℕ) (inside : ℕ → ℕ → Outcome) (xs : Items) (u : ℕ
   plain_shown (Lbits a n v) m nt ko e f =
       given (Lbits a n v) m (one (bits (bits_from s a n))) v e.0 f
       (shown_bits s (Lbits a n v) (bits_from s a n) n v (lbits_length s a n (omega arith)) refl (λ base. refl) refl)
-  plain_shown (Text a n) m nt ko e f = absurd (nt a n refl)
-  plain_shown (Open w a n) m nt ko e f = absurd (ko w a n refl)
+  plain_shown (Text x) m nt ko e f = absurd (nt x refl)
+  plain_shown (Open w x) m nt ko e f = absurd (ko w x refl)
 
 -- the head of an SBITSTR is neither
-pub sbits_no_text : (n w u a m : ℕ) → Sbits n w u ≡ Text a m → ⊥
-sbits_no_text n w u a m e = let z : ◌≡◌ {A = ℕ} 0 1 = cc in absurd (omega arith)
+pub sbits_no_text : (n w u : ℕ) (x : Extent) → Sbits n w u ≡ Text x → ⊥
+sbits_no_text n w u x e = let z : ◌≡◌ {A = ℕ} 0 1 = cc in absurd (omega arith)
 
-pub sbits_no_open : (n w u : ℕ) (v : Wrap) (a m : ℕ) → Sbits n w u ≡ Open v a m → ⊥
-sbits_no_open n w u v a m e = let z : ◌≡◌ {A = ℕ} 0 1 = cc in absurd (omega arith)
+pub sbits_no_open : (n w u : ℕ) (v : Wrap) (x : Extent) → Sbits n w u ≡ Open v x → ⊥
+sbits_no_open n w u v x e = let z : ◌≡◌ {A = ℕ} 0 1 = cc in absurd (omega arith)
 
-pub object_shown : (d b : ℕ) (s : List ℕ) (xs : Items) (u : ℕ) → object_at d b s ≡ got xs u → (h : Head) → ((a n : ℕ) → h ≡ Text a n → ⊥) → ((w : Wrap) (a n : ℕ) → h ≡ Open w a n → ⊥) → HeadIs s h (O.head_of d b s)
+pub object_shown : (d b : ℕ) (s : List ℕ) (xs : Items) (u : ℕ) → object_at d b s ≡ got xs u → (h : Head) → ((x : Extent) → h ≡ Text x → ⊥) → ((w : Wrap) (x : Extent) → h ≡ Open w x → ⊥) → HeadIs s (Ok h) (O.head_of d b s)
     → Shown s h xs u
 unfolding object_at
 object_shown d b s xs u f h nt ko e = plain_shown s (λ i n. reads (suc d) (O.contents s i n)) xs u h (O.head_of d b s) nt ko e f
 
+-- a bit string of n bits, in one word or in many
+pub record BitsHead (s : List ℕ) (h : Head) (n u : ℕ) : Type 0 where
+  pub rows_are : (base : ℕ) → plain_rows s base h ≡ 2 ∷ n ∷ base ∷ []
+  pub placed_is : plain_placed h ≡ placed_as 1 1 ((n + 63) / 64) u
+  pub few : Apt s h → length s ≤ 65536 → n ≤ 524288
+
+pub bits_head : (s : List ℕ) (h : Head) (n u : ℕ) → ((w : ℕ) × (h ≡ Sbits n w u)) ⊎ ((a : ℕ) × (h ≡ Lbits a n u)) → BitsHead s h n u
+unfolding plain_rows plain_placed words_for bytes_for Apt
+bits_head s h n u (inl e) = rw e.1 (record { rows_are = λ base. refl; placed_is = refl; few = λ a l. omega arith })
+bits_head s h n u (inr e) = rw e.1 (record { rows_are = λ base. refl; placed_is = refl; few = λ a l. omega arith })
+
 -- a head that writes no row, or no data words
-pub no_rows : (s : List ℕ) (h : Head) → ((k v u : ℕ) → h ≡ Row k v u → ⊥) → ((n w u : ℕ) → h ≡ Sbits n w u → ⊥) → ((a n u : ℕ) → h ≡ Lbits a n u → ⊥) → (plain_placed h ≡ placed_as 0 0 0 0) × ((base : ℕ) → plain_rows s base h ≡ [])
+pub no_rows : (s : List ℕ) (h : Head) → ((k : Kind) (v u : ℕ) → h ≡ Row k v u → ⊥) → ((n w u : ℕ) → h ≡ Sbits n w u → ⊥) → ((a n u : ℕ) → h ≡ Lbits a n u → ⊥) → (plain_placed h ≡ placed_as 0 0 0 0) × ((base : ℕ) → plain_rows s base h ≡ [])
 unfolding plain_placed plain_rows
-no_rows s (Stop f) nr ns nl = (refl, λ base. refl)
 no_rows s Gap nr ns nl = (refl, λ base. refl)
 no_rows s (Row k v u) nr ns nl = absurd (nr k v u refl)
 no_rows s (Sbits n w u) nr ns nl = absurd (ns n w u refl)
 no_rows s (Lbits a n u) nr ns nl = absurd (nl a n u refl)
-no_rows s (Text a n) nr ns nl = (refl, λ base. refl)
-no_rows s (Open w a n) nr ns nl = (refl, λ base. refl)
+no_rows s (Text x) nr ns nl = (refl, λ base. refl)
+no_rows s (Open w x) nr ns nl = (refl, λ base. refl)
 
 pub no_words : (s : List ℕ) (h : Head) → ((n w u : ℕ) → h ≡ Sbits n w u → ⊥) → ((a n u : ℕ) → h ≡ Lbits a n u → ⊥) → plain_words s h ≡ []
 unfolding plain_words
-no_words s (Stop f) ns nl = refl
 no_words s Gap ns nl = refl
 no_words s (Row k v u) ns nl = refl
 no_words s (Sbits n w u) ns nl = absurd (ns n w u refl)
 no_words s (Lbits a n u) ns nl = absurd (nl a n u refl)
-no_words s (Text a n) ns nl = refl
-no_words s (Open w a n) ns nl = refl
+no_words s (Text x) ns nl = refl
+no_words s (Open w x) ns nl = refl
 
 -- ---- the data words of an SBITSTR, none or one
 pub sbits_none : (s : List ℕ) (n w u : ℕ) → n ≡ 0 → plain_words s (Sbits n w u) ≡ []

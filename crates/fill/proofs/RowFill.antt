@@ -59,13 +59,6 @@ filling_step k v0 v1 v2 t₀ t j room h f =
       first2 = f.first2;
     }
 
--- rows that are one row, without data words
-pub one_room : (r k n : ℕ) → r ≡ 1 → 3 * (k * r) ≤ n → 3 * (k * 1) ≤ n
-one_room r k n e h = rw e at h
-
-pub one_goal : (w r k : ℕ) (t u : List ℕ) → r ≡ 1 → w ≡ 0 → u ≡ over (copies 0 k (take (3 * 1) t)) t → u ≡ over (copies w k (take (3 * r) t)) t
-one_goal w r k t u e f h = rw (e, f) h
-
 -- ---- rows as plain words
 abbrev Small : List ℕ → Type 0
 Small l = (i : ℕ) → get_or l i 0 < 2 ^ 64
@@ -87,9 +80,6 @@ copies_none : (k : ℕ) (l : List ℕ) → Small l → copies 0 k l ≡ again k 
 unfolding copies again
 copies_none zero l s = refl
 copies_none (suc k) l s = ap (λ x. l ++ x) (ap (copies 0 k) (rebased_none l s) ∙ copies_none k l s)
-
-pub plain_room : (r k n : ℕ) → 3 * (k * r) ≤ n → k * (3 * r) ≤ n
-plain_room r k n h = omega arith
 
 pub plain_goal : (w r k : ℕ) (t u : List ℕ) → w ≡ 0 → ((i : ℕ) → get_or t i 0 < 2 ^ 64) → u ≡ over (again k (take (3 * r) t)) t → u ≡ over (copies w k (take (3 * r) t)) t
 plain_goal w r k t u e s h = rw e (h ∙ ap (λ l. over l t) (sym (copies_none k (take (3 * r) t) (small_take (3 * r) t s))))

@@ -7,7 +7,7 @@ use Rattle.format.specs.Messages.{got}
 use Rattle.format.specs.Answers.{over}
 use Rattle.format.specs.Objects as O
 use Rattle.wire.specs.Heads.{BitsAt, marked_word}
-use Rattle.fill.specs.declared.plain.Placed.{Placed}
+use Rattle.fill.specs.declared.place.Placed.{Placed}
 use Rattle.fill.specs.Plain.{plain_rows, placed_as, plain_placed, sbits_head, PlainPut}
 use Rattle.fill.specs.Walks.{ObjectFits, ObjectFilled}
 use Rattle.format.specs.Lent.{over_at}
@@ -59,8 +59,8 @@ module _ {d b : ℕ} {s : List ℕ} {base gap : ℕ} {t : List ℕ} (f : ObjectF
   pub sbits_room : (n ≤ 63) × (O.following b ≤ length s) × (3 ≤ gap) × (gap + (base + words_for n) ≤ length t)
   unfolding plain_placed
   sbits_room =
-      let one : 1 ≡ rows f.items = ap (λ p. p.rows) shown.placed_is in
-      let many : words_for n ≡ length (data_words f.items) = ap (λ p. p.words) shown.placed_is in
+      let one : 1 ≡ rows f.items = ap (λ p. p.filled.rows) shown.placed_is in
+      let many : words_for n ≡ length (data_words f.items) = ap (λ p. p.filled.words) shown.placed_is in
       (x.few, x.within, omega arith, omega arith)
 
   pub sbits_filled : {t' : List ℕ} {r : Placed} → PlainPut s (sbits_head b s n) base gap t t' r → ObjectFilled d b s base gap t t' r
@@ -70,9 +70,9 @@ module _ {d b : ℕ} {s : List ℕ} {base gap : ℕ} {t : List ℕ} (f : ObjectF
         items = f.items;
         said = f.said ∙ ap (got f.items) (sym (ap (λ y. y.past) m));
         laid = record {
-          rows_are = ap (λ y. y.rows) m;
-          count_is = ap (λ y. y.count) m;
-          words_are = ap (λ y. y.words) m;
+          rows_are = ap (λ y. y.filled.rows) m;
+          count_is = ap (λ y. y.filled.count) m;
+          words_are = ap (λ y. y.filled.words) m;
           front_is = p.front_is ∙ ap (λ l. over l (take gap t)) (sym (shown.rows_are base));
           back_is = p.back_is ∙ ap (λ l. over_at base l (drop gap t)) (sym shown.words_are);
         };

@@ -33,8 +33,8 @@ pub opened_short : (d b : ℕ) (s : List ℕ) (n : ℕ) (ys : Items) (u : ℕ) �
 unfolding short_head
 opened_short d b s n ys u h e =
     split_eq b 0xc6
-    (λ q. rw (eq_true b 0xc6 q, struc_by b q) (opened_text d b s 1 n ys u (h.head ∙ if_eq_yes b 0xc6 _ _ q, h.within) e))
-    (λ q. rw (eq_false b 0xc6 q) (opened d b s (wrap_by b) 1 n ys u (h.head ∙ if_eq_no b 0xc6 _ _ q, h.within) e))
+    (λ q. rw (eq_true b 0xc6 q, struc_by b q) (opened_text d b s (record { start = 1; size = n }) ys u (h.head ∙ if_eq_yes b 0xc6 _ _ q, h.within) e))
+    (λ q. rw (eq_false b 0xc6 q) (opened d b s (wrap_by b) (record { start = 1; size = n }) ys u (h.head ∙ if_eq_no b 0xc6 _ _ q, h.within) e))
 
 -- it has a row of its own, and is one item
 abbrev OneRow : Wrap → Type 0

@@ -1,5 +1,5 @@
 -- The codes of a run that says only CHARs, object by object. Assumes nothing.
-use Rattle.std.proofs.Common.{◌≡◌, ℕ, zero, suc, ◌+◌, ◌-◌, ◌*◌, ◌<◌, ◌≤◌, true, false, List, [], ◌∷◌, ◌++◌, length, get_or, take, drop, sym, refl, ap, ◌∙◌, subst, zero-le, arith, length-append, length-drop, length-take-le, get_or-append-add}
+use Rattle.std.proofs.Common.{◌≡◌, ℕ, zero, suc, ◌+◌, ◌-◌, ◌*◌, ◌<◌, ◌≤◌, true, false, Ok, Err, List, [], ◌∷◌, ◌++◌, length, get_or, take, drop, sym, refl, ap, ◌∙◌, subst, zero-le, arith, length-append, length-drop, length-take-le, get_or-append-add}
 use lib.ListN.{get_or-append}
 use Rattle.format.specs.Choice.{both}
 use Rattle.format.specs.Items.{Items, end, leaf, group, join, times, is_string}
@@ -12,6 +12,8 @@ use Rattle.format.proofs.TableLaws.{codes_length}
 use Rattle.wire.specs.Ranges.{Between}
 use Rattle.wire.specs.declared.head.Wrap.{Wrap}
 use Rattle.wire.specs.declared.head.Wrap.TheVariants.{Struc, Ustruc, Edt, Repeat}
+use Rattle.format.specs.declared.fault.Fault.{Fault}
+use Rattle.wire.specs.declared.size.Extent.{Extent}
 use Rattle.wire.specs.declared.head.Head.{Head}
 use Rattle.wire.specs.declared.head.Head.TheVariants.{Open}
 use Rattle.wire.specs.Heads.{HeadIs}
@@ -23,7 +25,7 @@ use Rattle.fill.proofs.Letters.{low_again, spelt_none, spelt_more}
 use Rattle.fill.proofs.ContainerLaws.{Opened, opened, opened_run, closed_none}
 use Rattle.fill.proofs.TextLaws.{chars_count}
 use Rattle.wire.proofs.Stretches.{chars_say, padding_says, between_from}
-use Rattle.fill.proofs.StringLaws.{string_join, string_times, one_group, no_chars, repeat_none, pattern_part, PatternAt}
+use Rattle.fill.proofs.StringLaws.{string_join, string_times, one_group, no_chars, repeat_stop, repeat_none, PatternAt}
 use Rattle.format.proofs.Runs.{upto_end, Passed, passed_none, passed_piece, passed_rest, Ahead, ahead}
 
 -- ---- codes joined and repeated
@@ -169,32 +171,36 @@ module _ {d : ℕ} {s : List ℕ} {n : ℕ} {t₀ t : List ℕ} {i to : ℕ} (v 
         both_right (is_string v.xs) (is_string here.ys) (both_left (both (is_string v.xs) (is_string here.ys)) (is_string here.zs) e)
 
     -- it is a repeat, or nothing that could stand here
-    pub never : 0x80 ≤ b → b < 0xff → (x : Head) → ((w : Wrap) (a c : ℕ) → x ≡ Open w a c → ⊥) → HeadIs S x (O.head_of d b S) → ⊥
-    never l m x k e =
-        let f : is_string here.ys ≡ false =
-        split_eq b 0xc4 (λ q. repeat_none d b S q x k e here.ys here.past here.here) (λ q. no_chars d b S l q m here.ys here.past here.here) in
-        clash _ here_chars f
+    module _ (l : 0x80 ≤ b) (m : b < 0xff) where
+      only_repeat : (b ≡ 0xc4 → is_string here.ys ≡ false) → ⊥
+      only_repeat k = clash _ here_chars (split_eq b 0xc4 k (λ q. no_chars d b S l q m here.ys here.past here.here))
 
-  -- a repeat's pattern
-  module _ {w : Wrap} {a c : ℕ} (p : PatternAt d s i w a c) where
+      pub never_stop : (x : Fault) → HeadIs S (Err x) (O.head_of d b S) → ⊥
+      never_stop x e = only_repeat (λ q. repeat_stop d b S q here.ys here.past here.here x e)
+
+      pub never : (h : Head) → ((w : Wrap) (x : Extent) → h ≡ Open w x → ⊥) → HeadIs S (Ok h) (O.head_of d b S) → ⊥
+      never h k e = only_repeat (λ q. repeat_none d b S q here.ys here.past here.here h k e)
+
+  -- a repeat's pattern, and where it ends
+  module _ {w : Wrap} {x : Extent} (p : PatternAt d s i w x) where
     abbrev ahead_of : Ahead d s v.all v.xs i b
     ahead_of = here p.here
 
     abbrev I : List ℕ
-    I = take (i + 1 + a + c - (i + 1 + a)) (drop (i + 1 + a) s)
+    I = O.contents S x.start x.size
 
-    inside : Opened false d S w a c ahead_of.ys ahead_of.past
-    inside = opened d b S w a c ahead_of.ys ahead_of.past p.head ahead_of.here
+    inside : Opened false d S w x.start x.size ahead_of.ys ahead_of.past
+    inside = opened d b S w x ahead_of.ys ahead_of.past p.head ahead_of.here
 
-    behind : Passed d s v.all (join v.xs ahead_of.ys) (i + 1 + a + c)
-    behind = let e : i + 1 + ahead_of.past ≡ i + 1 + a + c = omega (arith, inside.past) in rw e at ahead_of.further
+    behind : {e : ℕ} → e ≡ x.start + x.size → Passed d s v.all (join v.xs ahead_of.ys) (i + 1 + e)
+    behind {e} ee = let q : i + 1 + ahead_of.past ≡ i + 1 + e = omega (arith, inside.past) in rw q at ahead_of.further
 
-    pub none_turn : copies_of w ≡ 0 → Spelling d s n t₀ t (i + 1 + a + c) to
+    pub none_turn : {e : ℕ} → e ≡ x.start + x.size → copies_of w ≡ 0 → Spelling d s n t₀ t (i + 1 + e) to
     unfolding count codes
-    none_turn z =
+    none_turn {e} ee z =
         let q : ahead_of.ys ≡ end = inside.closes ∙ closed_none w inside.xs z in
         let k : to + 0 ≡ to = omega arith in
-        subst (Spelling d s n t₀ t (i + 1 + a + c)) k (more end (i + 1 + a + c) (rw q at behind) t refl low_none (spelt_none to t))
+        subst (Spelling d s n t₀ t (i + 1 + e)) k (more end (i + 1 + e) (rw q at (behind ee)) t refl low_none (spelt_none to t))
 
     module _ {k : ℕ} (ek : k ≡ copies_of w) (some : 0 < k) where
       both_facts : (closed_items w inside.xs ≡ times (copies_of w) inside.xs) × (is_string inside.xs ≡ true)
@@ -204,7 +210,7 @@ module _ {d : ℕ} {s : List ℕ} {n : ℕ} {t₀ t : List ℕ} {i to : ℕ} (v 
       ys_are = inside.closes ∙ both_facts.0 ∙ ap (λ m. times m inside.xs) (sym ek)
 
       inner_said : reads (d + 1) I ≡ says inside.xs
-      inner_said = ap (reads (d + 1)) (pattern_part s i a c) ∙ opened_run inside
+      inner_said = opened_run inside
 
       all_count : n + (count v.xs + k * count inside.xs) ≤ n + count v.all
       all_count =
@@ -229,23 +235,23 @@ module _ {d : ℕ} {s : List ℕ} {n : ℕ} {t₀ t : List ℕ} {i to : ℕ} (v 
         pub copies_fit : (to ≤ m) × (to + k * (m - to) ≤ 8 * length t₁) × (to + k * (m - to) ≤ 131072)
         copies_fit =
             let q = all_count in
-            let x : m - to ≡ count inside.xs = omega (arith, upto_is) in
-            let a : to + k * (m - to) ≤ 8 * length t₁ = rw x (omega arith) in
-            let b : to + k * (m - to) ≤ 131072 = rw x (omega arith) in
+            let y : m - to ≡ count inside.xs = omega (arith, upto_is) in
+            let a : to + k * (m - to) ≤ 8 * length t₁ = rw y (omega arith) in
+            let b : to + k * (m - to) ≤ 131072 = rw y (omega arith) in
             (omega (arith, upto_is), a, b)
 
-        pub times_turn : {t₂ : List ℕ} → length t₂ ≡ length t₁ → SpeltAgain to (m - to) k t₁ t₂ → Spelling d s n t₀ t₂ (i + 1 + a + c) (to + k * (m - to))
-        times_turn {t₂} l₂ q =
-            let x : m - to ≡ count inside.xs = omega (arith, upto_is) in
+        pub times_turn : {t₂ : List ℕ} → length t₂ ≡ length t₁ → SpeltAgain to (m - to) k t₁ t₂ → {e : ℕ} → e ≡ x.start + x.size → Spelling d s n t₀ t₂ (i + 1 + e) (to + k * (m - to))
+        times_turn {t₂} l₂ q {e} ee =
+            let y : m - to ≡ count inside.xs = omega (arith, upto_is) in
             let cs : Spelt to (codes inside.xs) t t₁ = rw same at g.spelt in
             let low : Low (codes inside.xs) = rw same at g.low in
             let lw : Low (codes ahead_of.ys) = subst Low (sym (ap codes ys_are ∙ codes_times k inside.xs)) (low_again k (codes inside.xs) low) in
             let ag : Spelt to (again k (codes inside.xs)) t t₂ =
-            λ ds u e f. q ds (codes inside.xs) u e (codes_length inside.xs ∙ sym x) low (cs ds u e f) in
+            λ ds u g f. q ds (codes inside.xs) u g (codes_length inside.xs ∙ sym y) low (cs ds u g f) in
             let sp : Spelt to (codes ahead_of.ys) t t₂ = subst (λ z. Spelt to z t t₂) (sym (ap codes ys_are ∙ codes_times k inside.xs)) ag in
-            let cn : count ahead_of.ys ≡ k * (m - to) = ap count ys_are ∙ count_times k inside.xs ∙ ap (λ z. k * z) (sym x) in
-            subst (λ z. Spelling d s n t₀ t₂ (i + 1 + a + c) (to + z)) cn
-            (more ahead_of.ys (i + 1 + a + c) behind t₂ (l₂ ∙ l₁) lw sp)
+            let cn : count ahead_of.ys ≡ k * (m - to) = ap count ys_are ∙ count_times k inside.xs ∙ ap (λ z. k * z) (sym y) in
+            subst (λ z. Spelling d s n t₀ t₂ (i + 1 + e) (to + z)) cn
+            (more ahead_of.ys (i + 1 + e) (behind ee) t₂ (l₂ ∙ l₁) lw sp)
 
 -- padding
 pub gap_turn : {d : ℕ} {s : List ℕ} {n : ℕ} {t₀ t : List ℕ} {i to e : ℕ} → Spelling d s n t₀ t i to → get_or s i 0 ≡ 0xff

@@ -1,5 +1,7 @@
 -- The rows of a stretch, one object more at a time. Assumes nothing.
-use Rattle.std.proofs.Common.{◌≡◌, ℕ, ◌+◌, ◌-◌, ◌*◌, ◌/◌, ◌%◌, ◌<◌, ◌≤◌, Bool, true, eqb, List, [], ◌∷◌, length, get_or, take, drop, sym, refl, ap, ◌∙◌, subst, add-zero, arith, length-drop}
+use Rattle.std.proofs.Common.{◌≡◌, ℕ, ◌+◌, ◌-◌, ◌*◌, ◌%◌, ◌<◌, ◌≤◌, List, [], ◌∷◌, length, get_or, take, drop, sym, refl, ap, ◌∙◌, subst, add-zero, arith, length-drop}
+use Rattle.format.specs.Classes.{class_of}
+use Rattle.format.specs.declared.Class.TheVariants.{Linteger}
 use Rattle.format.specs.Items.{Leaf, end, one, join}
 use Rattle.format.specs.Numbers.{twos}
 use Rattle.format.specs.Objects.{following, integer}
@@ -13,7 +15,8 @@ use Rattle.format.proofs.Parts.{rest_part}
 use Rattle.format.proofs.TableLaws.{row_length}
 use Rattle.wire.specs.Ranges.{Between}
 use Rattle.wire.specs.Heads.{IsRow, OneRow}
-use Rattle.wire.proofs.OneRows.{char_at, small_at, long_byte, long_at}
+use Rattle.wire.proofs.OneRows.{char_at, small_at, long_at}
+use Rattle.wire.proofs.ClassCases.{of_class}
 use Rattle.fill.specs.declared.stretch.Stretch.{Stretch}
 use Rattle.fill.specs.Stretch.{RowsInRange, LongOf, Stretched}
 
@@ -37,8 +40,8 @@ pub small_range : RowsInRange 0x80 0xbf 1
 small_range b s g h = let e : b - 0x80 ≡ b % 64 = omega arith in rw e (small_at b s g (omega arith))
 
 -- an LINTEGER's type-byte, as the code tells it
-pub long_of : (b k : ℕ) (t : Bool) → t ≡ eqb (b / 8) 0x1c → t ≡ true → k ≡ following b → LongOf b k
-long_of b k t e h f = let r = long_byte b t e h in (r.0, r.1, f)
+pub long_of : (b k : ℕ) → Linteger ≡ class_of b → k ≡ following b → LongOf b k
+long_of b k e f = let r = of_class b Linteger e in (r.0, omega arith, f)
 
 -- ---- stretches
 pub stretched_none : (s : List ℕ) (i used : ℕ) (t : List ℕ) → i ≤ length s → used ≤ length t → Stretched s i used t t i 0

@@ -1,5 +1,5 @@
 -- Whether a run says only CHARs, told object by object. Assumes nothing.
-use Rattle.std.proofs.Common.{◌≡◌, ℕ, zero, suc, ◌+◌, ◌-◌, ◌/◌, ◌<◌, ◌≤◌, Bool, true, false, eqb, ◌≢◌, List, [], ◌∷◌, ◌++◌, length, get_or, take, drop, sym, refl, ap, ◌∙◌, subst, zero-le, arith, drop-drop}
+use Rattle.std.proofs.Common.{◌≡◌, ℕ, zero, suc, ◌+◌, ◌-◌, ◌<◌, ◌≤◌, Bool, true, false, IsTrue, ◌↔◌, nat_lt, Ok, Err, eqb, ◌≢◌, List, [], ◌∷◌, ◌++◌, length, get_or, take, drop, sym, refl, ap, ◌∙◌, subst, zero-le, arith, length-drop, length-take}
 use Rattle.format.specs.Choice.{both}
 use Rattle.format.specs.Items.{Group, Items, end, group, join, times, all_of, group_kind, kinds, is_string, CHAR}
 use Rattle.format.specs.declared.Class.{Class}
@@ -7,25 +7,27 @@ use Rattle.format.specs.declared.Class.TheVariants as C
 use Rattle.format.specs.Classes.{class_of}
 use Rattle.format.specs.Objects as O
 use Rattle.format.specs.Messages.{Object, says, bad, got, object, reads}
-use Rattle.format.proofs.Choices.{eq_false, true_eq}
-use borrow.Author.Tests.{eqb-false}
+use Rattle.format.proofs.Choices.{split, whether, eq_true, eq_false, lt_true, lt_false}
 use Rattle.format.proofs.Counts.{kinds_join, times_suc, times_zero}
 use Rattle.format.proofs.HeadCases.{by_repeat}
 use Rattle.format.proofs.OneKind.{KindsBy, class_tells_kind}
 use Rattle.format.specs.Runs.{object_at, Piece}
 use Rattle.format.proofs.TableLaws.{group_kind_lem}
-use Rattle.format.proofs.TypeBytes.{InClass, in_class}
+use Rattle.format.proofs.TypeBytes.{InClass, in_class, char_class}
+use Rattle.wire.proofs.ClassCases.{of_class}
 use Rattle.wire.specs.Ranges.{Between}
 use Rattle.wire.specs.declared.head.Wrap.{Wrap}
 use Rattle.wire.specs.declared.head.Wrap.TheVariants.{Struc, Ustruc, Edt, Repeat}
+use Rattle.format.specs.declared.fault.Fault.{Fault}
+use Rattle.format.specs.Refused.{meant}
+use Rattle.wire.specs.declared.size.Extent.{Extent}
 use Rattle.wire.specs.declared.head.Head.{Head}
-use Rattle.wire.specs.declared.head.Head.TheVariants.{Stop, Gap, Row, Sbits, Lbits, Text, Open}
+use Rattle.wire.specs.declared.head.Head.TheVariants.{Gap, Row, Sbits, Lbits, Text, Open}
 use Rattle.wire.specs.Heads.{HeadIs, wrap_of}
 use Rattle.fill.specs.Containers.{copies_of, closed_items}
 use Rattle.fill.specs.Texts.{OnlyChars}
 use Rattle.fill.proofs.ContainerLaws.{opened, opened_run, closed_none}
 use Rattle.wire.proofs.Stretches.{chars_say, padding_says, between_from}
-use Rattle.format.proofs.Parts.{rest_part}
 use Rattle.format.proofs.Over.{part_length}
 use Rattle.format.proofs.Runs.{upto_end, Passed, passed_none, passed_piece, ahead}
 use Rattle.format.proofs.ItemLaws.{chars_string}
@@ -110,19 +112,21 @@ module _ (d b : ℕ) (s : List ℕ) (c4 : b ≡ 0xc4) where
   like m e = subst RepeatLike e (repeat_like d b s c4)
 
   -- nothing but a container is accepted
-  pub repeat_none : (h : Head) → ((w : Wrap) (a n : ℕ) → h ≡ Open w a n → ⊥) → HeadIs s h (O.head_of d b s) → (ys : Items) (u : ℕ)
-      → object_at d b s ≡ got ys u → is_string ys ≡ false
-  unfolding object_at object
-  repeat_none (Stop x) k e ys u f =
-      let g : bad x ≡ got ys u = sym (ap (object (λ a m. reads (suc d) (O.contents s a m))) e) ∙ f in
-      let z : ◌≡◌ {A = ℕ} 0 1 = cc in
-      absurd (omega arith)
-  repeat_none Gap k e ys u f = absurd (like _ e)
-  repeat_none (Row x v w) k e ys u f = absurd (like _ e.1)
-  repeat_none (Sbits n w v) k e ys u f = absurd (like _ e.1)
-  repeat_none (Lbits a n v) k e ys u f = absurd (like _ e.0)
-  repeat_none (Text a n) k e ys u f = absurd (like _ e.0)
-  repeat_none (Open w a n) k e ys u f = absurd (k w a n refl)
+  module _ (ys : Items) (u : ℕ) (f : object_at d b s ≡ got ys u) where
+    pub repeat_stop : (x : Fault) → HeadIs s (Err x) (O.head_of d b s) → is_string ys ≡ false
+    unfolding object_at object
+    repeat_stop x e =
+        let g : bad (meant x) ≡ got ys u = sym (ap (object (λ a m. reads (suc d) (O.contents s a m))) e) ∙ f in
+        let z : ◌≡◌ {A = ℕ} 0 1 = cc in
+        absurd (omega arith)
+
+    pub repeat_none : (h : Head) → ((w : Wrap) (e : Extent) → h ≡ Open w e → ⊥) → HeadIs s (Ok h) (O.head_of d b s) → is_string ys ≡ false
+    repeat_none Gap k e = absurd (like _ e)
+    repeat_none (Row x v w) k e = absurd (like _ e.1)
+    repeat_none (Sbits n w v) k e = absurd (like _ e.1)
+    repeat_none (Lbits a n v) k e = absurd (like _ e.0)
+    repeat_none (Text x) k e = absurd (like _ e.0)
+    repeat_none (Open w x) k e = absurd (k w x refl)
 
   closed_string : (w : Wrap) (a n : ℕ) → RepeatLike (O.opens (wrap_of w) a n) → (xs : Items) → 0 < copies_of w → is_string (closed_items w xs) ≡ is_string xs
   unfolding wrap_of closed_items copies_of
@@ -132,19 +136,19 @@ module _ (d b : ℕ) (s : List ℕ) (c4 : b ≡ 0xc4) where
   closed_string (Repeat zero) a n r xs p = absurd (omega arith)
   closed_string (Repeat (suc k)) a n r xs p = string_times k xs
 
-  module _ (w : Wrap) (a n : ℕ) (e : HeadIs s (Open w a n) (O.head_of d b s)) where
+  module _ (w : Wrap) (x : Extent) (e : HeadIs s (Ok (Open w x)) (O.head_of d b s)) where
     -- no copies
-    repeat_gone : copies_of w ≡ 0 → (ys : Items) (u : ℕ) → object_at d b s ≡ got ys u → (u ≡ a + n) × (is_string ys ≡ true)
+    repeat_gone : copies_of w ≡ 0 → (ys : Items) (u : ℕ) → object_at d b s ≡ got ys u → (u ≡ x.start + x.size) × (is_string ys ≡ true)
     repeat_gone z ys u f =
-        let o = opened d b s w a n ys u e f in
+        let o = opened d b s w x ys u e f in
         (o.past, ap is_string (o.closes ∙ closed_none w o.xs z) ∙ string_end)
 
     -- as many as the pattern's own answer
-    repeat_as : (r : Bool) → OnlyChars (d + 1) (take (a + n - a) (drop a s)) r → 0 < copies_of w → (ys : Items) (u : ℕ) → object_at d b s ≡ got ys u
-        → (u ≡ a + n) × (is_string ys ≡ r)
+    repeat_as : (r : Bool) → OnlyChars (d + 1) (O.contents s x.start x.size) r → 0 < copies_of w → (ys : Items) (u : ℕ) → object_at d b s ≡ got ys u
+        → (u ≡ x.start + x.size) × (is_string ys ≡ r)
     repeat_as r q p ys u f =
-        let o = opened d b s w a n ys u e f in
-        (o.past, ap is_string o.closes ∙ closed_string w a n (like _ e.0) o.xs p ∙ sym (q o.xs (opened_run o)))
+        let o = opened d b s w x ys u e f in
+        (o.past, ap is_string o.closes ∙ closed_string w x.start x.size (like _ e.0) o.xs p ∙ sym (q o.xs (opened_run o)))
 
 -- ---- the loop: up to i a run that is accepted says only CHARs
 pub record CharsTo (d : ℕ) (s : List ℕ) (all : Items) (i : ℕ) : Type 0 where
@@ -215,48 +219,78 @@ chars_bytes d s i e l w = chars_piece (chars_say s i e (omega (arith, w.0)) w.1 
 pub chars_gaps : (d : ℕ) (s : List ℕ) (i e : ℕ) → get_or s i 0 ≡ 0xff → (i + 1 ≤ e) × (e ≤ length s) × Between 0xff 0xff (i + 1) e s → Chars d s i → Chars d s e
 chars_gaps d s i e l w = chars_piece (padding_says s i e (omega (arith, w.0)) w.1 (between_from 0xff 0xff i e s (omega arith) (omega arith) w.2)) string_end
 
--- ---- as the code tells a type-byte
-pub char_is : (b : ℕ) (r : Bool) → r ≡ eqb (b / 128) 0 → r ≡ true → b < 0x80
-char_is b r e y = let k : b / 128 ≡ 0 = true_eq (b / 128) 0 (sym e ∙ y) in omega arith
+-- ---- as the code tells a type-byte, by its class
+module _ {b : ℕ} where
+  pub char_is : C.Char7 ≡ class_of b → b < 0x80
+  char_is e = of_class b C.Char7 e
 
-pub char_not : (b : ℕ) (r : Bool) → r ≡ eqb (b / 128) 0 → r ≡ false → 0x80 ≤ b
-char_not b r e n = let k : b / 128 ≢ 0 = eqb-false (b / 128) 0 (sym e ∙ n) in omega arith
+  pub gap_is : b < 256 → C.Padding ≡ class_of b → b ≡ 0xff
+  gap_is h e = let m = of_class b C.Padding e in omega arith
 
-pub byte_is : (b k : ℕ) (r : Bool) → r ≡ eqb b k → r ≡ true → b ≡ k
-byte_is b k r e y = true_eq b k (sym e ∙ y)
+  pub repeat_is : C.Repeat ≡ class_of b → b ≡ 0xc4
+  repeat_is e = of_class b C.Repeat e
 
-pub byte_not : (b k : ℕ) (r : Bool) → r ≡ eqb b k → r ≡ false → b ≢ k
-byte_not b k r e n = eqb-false b k (sym e ∙ n)
+module _ {b : ℕ} {k : Class} (e : k ≡ class_of b) where
+  pub char_not : (k ≡ C.Char7 → ⊥) → 0x80 ≤ b
+  char_not n = split b 0x80 (λ l. absurd (n (e ∙ char_class b l))) (λ g. g)
+
+  pub gap_not : b < 256 → (k ≡ C.Padding → ⊥) → b < 0xff
+  unfolding class_of
+  gap_not h n = split b 0xff (λ l. l) (λ g. let q : b ≡ 0xff = omega arith in absurd (n (e ∙ ap class_of q)))
+
+  pub repeat_not : (k ≡ C.Repeat → ⊥) → b ≢ 0xc4
+  unfolding class_of
+  repeat_not n q = n (e ∙ ap class_of q)
+
+-- as the code asks whether it is of a class
+module _ (b : ℕ) {r : Bool} where
+  pub char_told : IsTrue r ↔ (class_of b ≡ C.Char7) → r ≡ nat_lt b 0x80
+  char_told e =
+      whether r (λ y. y ∙ sym (lt_true b 0x80 (char_is (sym (e.0 y)))))
+      (λ n. n ∙ sym (lt_false b 0x80 (char_not refl (λ q. let z = e.1 q in cc))))
+
+  pub gap_told : b < 256 → IsTrue r ↔ (class_of b ≡ C.Padding) → r ≡ eqb b 0xff
+  gap_told h e =
+      whether r (λ y. y ∙ sym (eq_true b 0xff (gap_is h (sym (e.0 y)))))
+      (λ n. let g = gap_not refl h (λ q. let z = e.1 q in cc) in n ∙ sym (eq_false b 0xff (omega arith)))
+
+  pub repeat_told : IsTrue r ↔ (class_of b ≡ C.Repeat) → r ≡ eqb b 0xc4
+  repeat_told e =
+      whether r (λ y. y ∙ sym (eq_true b 0xc4 (repeat_is (sym (e.0 y)))))
+      (λ n. n ∙ sym (eq_false b 0xc4 (repeat_not refl (λ q. let z = e.1 q in cc))))
 
 -- ---- a repeat's pattern, as the code lends it on
-pub pattern_part : (s : List ℕ) (i a n : ℕ) → take (i + 1 + a + n - (i + 1 + a)) (drop (i + 1 + a) s) ≡ take (a + n - a) (drop a (take (length s - (i + 1)) (drop (i + 1) s)))
-pattern_part s i a n =
-    let e : i + 1 + a + n - (i + 1 + a) ≡ a + n - a = omega arith in
-    ap (λ k. take k (drop (i + 1 + a) s)) e ∙ ap (take (a + n - a)) (sym (ap (drop a) (rest_part s (i + 1)) ∙ drop-drop a (i + 1) s))
-
-pub record PatternAt (d : ℕ) (s : List ℕ) (i : ℕ) (w : Wrap) (a n : ℕ) : Type 0 where
+pub record PatternAt (d : ℕ) (s : List ℕ) (i : ℕ) (w : Wrap) (x : Extent) : Type 0 where
   pub here : i < length s
-  pub head : HeadIs (take (length s - (i + 1)) (drop (i + 1) s)) (Open w a n) (O.head_of d (get_or s i 0) (take (length s - (i + 1)) (drop (i + 1) s)))
+  pub head : HeadIs (take (length s - (i + 1)) (drop (i + 1) s)) (Ok (Open w x)) (O.head_of d (get_or s i 0) (take (length s - (i + 1)) (drop (i + 1) s)))
 
-module _ {d : ℕ} {s : List ℕ} {i : ℕ} {w : Wrap} {a n : ℕ} (p : PatternAt d s i w a n) where
-  pub pattern_end : i + 1 + a + n ≤ length s
-  pattern_end = omega (arith, p.head.1, part_length (i + 1) s)
+module _ {d : ℕ} {s : List ℕ} {i : ℕ} {w : Wrap} {x : Extent} (p : PatternAt d s i w x) where
+  -- the bytes behind the type-byte, where the pattern lies
+  abbrev S : List ℕ
+  S = take (length s - (i + 1)) (drop (i + 1) s)
 
-  module _ (v : Chars d s i) (c4 : get_or s i 0 ≡ 0xc4) where
-    abbrev S : List ℕ
-    S = take (length s - (i + 1)) (drop (i + 1) s)
+  pub pattern_within : (x.start + x.size ≤ length S) × (i + 1 + (x.start + x.size) ≤ length s)
+  pattern_within = (p.head.1, omega (arith, p.head.1, part_length (i + 1) s))
 
-    pub gone_turn : copies_of w ≡ 0 → Chars d s (i + 1 + a + n)
+  pub pattern_shorter : length (O.contents S x.start x.size) + (i + 1) ≤ length s
+  unfolding O.contents
+  pattern_shorter = let q = pattern_within in simp (length-take, length-drop) (omega arith)
+
+  module _ {e : ℕ} (ee : e ≡ x.start + x.size) (v : Chars d s i) (c4 : get_or s i 0 ≡ 0xc4) where
+    ends : i + 1 + e ≤ length s
+    ends = omega (arith, pattern_within.1)
+
+    pub gone_turn : copies_of w ≡ 0 → Chars d s (i + 1 + e)
     gone_turn z =
-        chars_turn v p.here (i + 1 + a + n) pattern_end
-        (λ ys u q. let k = repeat_gone d (get_or s i 0) S c4 w a n p.head z ys u q in (omega (arith, k.0), k.1))
+        chars_turn v p.here (i + 1 + e) ends
+        (λ ys u q. let k = repeat_gone d (get_or s i 0) S c4 w x p.head z ys u q in (omega (arith, k.0), k.1))
 
-    module _ {r : Bool} (q : OnlyChars (d + 1) (take (i + 1 + a + n - (i + 1 + a)) (drop (i + 1 + a) s)) r) (m : 0 < copies_of w) where
-      told : (ys : Items) (u : ℕ) → Here d s i ≡ got ys u → (u ≡ a + n) × (is_string ys ≡ r)
-      told = repeat_as d (get_or s i 0) S c4 w a n p.head r (subst (λ l. OnlyChars (d + 1) l r) (pattern_part s i a n) q) m
+    module _ {r : Bool} (q : OnlyChars (d + 1) (O.contents S x.start x.size) r) (m : 0 < copies_of w) where
+      pub more_turn : r ≡ true → Chars d s (i + 1 + e)
+      more_turn y =
+          chars_turn v p.here (i + 1 + e) ends
+          (λ ys u f. let k = repeat_as d (get_or s i 0) S c4 w x p.head r q m ys u f in (omega (arith, k.0), k.1 ∙ y))
 
-      pub more_turn : r ≡ true → Chars d s (i + 1 + a + n)
-      more_turn y = chars_turn v p.here (i + 1 + a + n) pattern_end (λ ys u x. let k = told ys u x in (omega (arith, k.0), k.1 ∙ y))
-
-      pub stop_turn : r ≡ false → OnlyChars d s false
-      stop_turn y = chars_not v p.here (λ ys u x. (told ys u x).1 ∙ y)
+  -- or it says something else
+  pub stop_turn : Chars d s i → get_or s i 0 ≡ 0xc4 → OnlyChars (d + 1) (O.contents S x.start x.size) false → 0 < copies_of w → OnlyChars d s false
+  stop_turn v c4 q m = chars_not v p.here (λ ys u f. (repeat_as d (get_or s i 0) S c4 w x p.head false q m ys u f).1)

@@ -6,7 +6,7 @@ use Rattle.format.specs.Messages.{got, onto, reads, Outcome, refused, says}
 use Rattle.format.specs.Answers.{over}
 use Rattle.format.proofs.Counts.{words, rows_join, count_join, words_join, data_join, row_words_join, count_rows}
 use Rattle.format.proofs.TableLaws.{row_length}
-use Rattle.fill.specs.declared.plain.Placed.{Placed}
+use Rattle.fill.specs.declared.place.Placed.{Placed}
 use Rattle.fill.specs.Walks.{Fits, RunFits, ObjectFits, Laid, RunFilled, ObjectFilled}
 use Rattle.fill.specs.Stretch.{Stretched}
 use Rattle.format.specs.Lent.{over_at}
@@ -116,31 +116,24 @@ module _ {d : ℕ} {s : List ℕ} {base gap : ℕ} {t₀ t : List ℕ} {i r c w 
       }
 
   -- a stretch further on
-  pub stretch_turn : {ys : List ℕ} {e n : ℕ} → Stretched s i (3 * r) (take (gap - 0) (drop 0 t)) ys e n
-      → WalkInv d s base gap t₀ (take 0 t ++ (ys ++ drop (gap - 0) (drop 0 t))) e (r + n) (c + n) w
+  pub stretch_turn : {ys : List ℕ} {e n : ℕ} → Stretched s i (3 * r) (take gap t) ys e n → WalkInv d s base gap t₀ (ys ++ drop gap t) e (r + n) (c + n) (w + 0)
   stretch_turn {ys} {e} {n} x =
       let zs = x.items in
-      let z : gap - 0 ≡ gap = omega arith in
-      let ly : length ys ≡ gap = x.long ∙ ap (λ m. length (take m t)) z ∙ length-take-le gap t (omega arith) in
-      let front =
-      take_at ys (drop (gap - 0) t) gap ly ∙ x.table_is (base + w) ∙ ap (λ m. over_at (3 * r) (row_words (base + w) zs) (take m t)) z in
-      let back =
-      drop_at ys (drop (gap - 0) t) gap ly ∙ ap (λ m. drop m t) z
-      ∙ sym (ap (λ l. over_at (base + w) l (drop gap t)) (none_in (data_words zs) x.none) ∙ at_none (base + w) (drop gap t)) in
-      let long : length (ys ++ drop (gap - 0) t) ≡ length t = length-append ys (drop (gap - 0) t) ∙ omega (arith, length-drop (gap - 0) t) in
-      let k : w + 0 ≡ w = omega arith in
-      rw k at (grown zs (passed_piece v.passed x.piece) x.rows_are x.count_is (sym x.none) long front back)
+      let ly : length ys ≡ gap = x.long ∙ length-take-le gap t (omega arith) in
+      let back = drop_at ys (drop gap t) gap ly ∙ sym (ap (λ l. over_at (base + w) l (drop gap t)) (none_in (data_words zs) x.none) ∙ at_none (base + w) (drop gap t)) in
+      let long : length (ys ++ drop gap t) ≡ length t = length-append ys (drop gap t) ∙ omega (arith, length-drop gap t) in
+      grown zs (passed_piece v.passed x.piece) x.rows_are x.count_is (sym x.none) long (take_at ys (drop gap t) gap ly ∙ x.table_is (base + w)) back
 
   -- a stretch that did not get further has no rows
-  pub stretch_stay : {ys : List ℕ} {e n : ℕ} → Stretched s i (3 * r) (take (gap - 0) (drop 0 t)) ys e n → e ≤ i
-      → WalkInv d s base gap t₀ (take 0 t ++ (ys ++ drop (gap - 0) (drop 0 t))) i r c w
+  pub stretch_stay : {ys : List ℕ} {e n : ℕ} → Stretched s i (3 * r) (take gap t) ys e n → e ≤ i → WalkInv d s base gap t₀ (ys ++ drop gap t) i r c w
   stretch_stay {ys} {e} {n} x h =
       let q : e ≡ i = omega arith in
       let o : reads d (drop i s) ≡ onto x.items (e - i) (reads d (drop i s)) = x.piece.said d ∙ ap (λ m. onto x.items (e - i) (reads d (drop m s))) q in
       let z : n ≡ 0 = x.rows_are ∙ onto_self x.items (e - i) (reads d (drop i s)) o v.xs i v.all (sym v.passed.upto.so_far ∙ v.passed.said) in
       let qr : r + n ≡ r = omega arith in
       let qc : c + n ≡ c = omega arith in
-      rw (qr, qc, q) at (stretch_turn x)
+      let qw : w + 0 ≡ w = omega arith in
+      rw (qr, qc, qw, q) at (stretch_turn x)
 
   -- the object at i, whose type-byte is b
   module _ {b : ℕ} (h : i < length s) (e : b ≡ get_or s i 0) where
@@ -161,14 +154,15 @@ module _ {d : ℕ} {s : List ℕ} {base gap : ℕ} {t₀ t : List ℕ} {i r c w 
     here_fits = record { items = here.ys; past = here.past; said = here.here; fits = fits }
 
     pub walk_more : {p : Placed} {last : List ℕ} → ObjectFilled d b S (base + w) (gap - 3 * r) P last p
-        → WalkInv d s base gap t₀ (take (3 * r) t ++ (last ++ drop (length t - 3 * r) (drop (3 * r) t))) (i + 1 + p.past) (r + p.rows) (c + p.count) (w + p.words)
+        → WalkInv d s base gap t₀ (take (3 * r) t ++ (last ++ drop (length t - 3 * r) (drop (3 * r) t))) (i + (1 + p.past)) (r + p.filled.rows) (c + p.filled.count) (w + p.filled.words)
     walk_more {p} {last} g =
         let q : got g.items p.past ≡ got here.ys here.past = sym g.said ∙ here.here in
         let same : g.items ≡ here.ys = cc in
         let past : p.past ≡ here.past = cc in
-        let k : Laid here.ys (base + w) (gap - 3 * r) P last p.rows p.count p.words = rw same at g.laid in
+        let k : Laid here.ys (base + w) (gap - 3 * r) P last p.filled.rows p.filled.count p.filled.words = rw same at g.laid in
         let l5 = v.room in
         let g1 : gap ≤ length t = omega arith in
         let front = front_lent gap (3 * r) t l5 g1 last (row_words (base + w) here.ys) k.front_is in
         let back = back_out gap (3 * r) t l5 g1 last ∙ k.back_is ∙ ap (over_at (base + w) (data_words here.ys)) (back_in gap (3 * r) t l5 g1) in
-        grown here.ys (rw past here.further) k.rows_are k.count_is k.words_are (back_length (3 * r) t last (omega arith) (laid_long k fits)) front back
+        let at : i + 1 + here.past ≡ i + (1 + p.past) = omega arith in
+        grown here.ys (rw at at here.further) k.rows_are k.count_is k.words_are (back_length (3 * r) t last (omega arith) (laid_long k fits)) front back

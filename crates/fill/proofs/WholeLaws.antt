@@ -6,7 +6,7 @@ use Rattle.format.specs.Tables.{count, rows, data_words, row_words, table_of, wo
 use Rattle.format.specs.Answers.{over}
 use Rattle.format.proofs.Counts.{words, count_rows}
 use Rattle.format.proofs.TableLaws.{row_length}
-use Rattle.fill.specs.declared.walk.Filled.{Filled}
+use Rattle.fill.specs.declared.place.Filled.{Filled}
 use Rattle.fill.specs.Walks.{RunFits, RunFilled}
 use Rattle.fill.specs.Whole.{Roomy, ItemsPut, laid_out}
 use Rattle.format.specs.Lent.{over_at}

@@ -7,7 +7,7 @@ use Rattle.format.specs.Lent.{over_at}
 use Rattle.format.specs.Refusals.{word_limit}
 use Rattle.wire.specs.declared.head.Wrap.{Wrap}
 use Rattle.wire.specs.declared.head.Wrap.TheVariants.{Struc, Ustruc, Edt, Repeat}
-use Rattle.fill.specs.declared.walk.Filled.{Filled}
+use Rattle.fill.specs.declared.place.Filled.{Filled}
 use Rattle.fill.specs.Copies.{copies, again}
 
 -- how often the elements stand there

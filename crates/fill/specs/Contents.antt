@@ -1,11 +1,11 @@
 -- A container, and a string whose size is one byte, by the contents.
 use Rattle.std.specs.Prelude.{◌≡◌, ℕ, ◌+◌, Bool, true, List, length, ◌==◌}
-use Rattle.format.specs.Items.{Items}
-use Rattle.format.specs.Messages.{Outcome, says}
+use Rattle.format.specs.Items.{Items, is_string}
+use Rattle.format.specs.Messages.{Outcome, says, reads}
 use Rattle.wire.specs.declared.head.Wrap.{Wrap}
 use Rattle.wire.specs.Heads.{wrap_by}
-use Rattle.fill.specs.declared.walk.Filled.{Filled}
-use Rattle.fill.specs.Containers.{is_struc, text_in, closed_items}
+use Rattle.fill.specs.declared.place.Filled.{Filled}
+use Rattle.fill.specs.Containers.{is_struc, closed_items}
 use Rattle.fill.specs.Texts.{contents_say}
 use Rattle.fill.specs.Walks.{Fits, Laid}
 
@@ -31,7 +31,6 @@ ShortFits d b c = ContentsFit (b == 0xc6) (d + 1) c (wrap_by b)
 abbrev pub ShortFilled : ℕ → ℕ → List ℕ → ℕ → ℕ → List ℕ → List ℕ → Filled → Type 0
 ShortFilled d b c = ContentsFilled (b == 0xc6) (d + 1) c (wrap_by b)
 
--- whether it can be a string: a STRUC can, and nothing that is one is missed
-abbrev pub TextLike : ℕ → List ℕ → Bool → Type 0
-TextLike b c r =
-    (r ≡ true → is_struc (wrap_by b) ≡ true) × ((d : ℕ) (xs : Items) → inside_of d b c ≡ says xs → text_in (wrap_by b) xs ≡ true → r ≡ true)
+-- whether a run can be a string's contents: nothing that is one is missed
+abbrev pub TextLike : List ℕ → Bool → Type 0
+TextLike c r = (d : ℕ) (xs : Items) → reads d c ≡ says xs → is_string xs ≡ true → r ≡ true

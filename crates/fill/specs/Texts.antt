@@ -1,5 +1,5 @@
 -- A string: whether contents are characters only, and their codes in the data words, eight to a word.
-use Rattle.std.specs.Prelude.{◌≡◌, ℕ, suc, ◌+◌, ◌-◌, ◌*◌, ◌<◌, ◌≤◌, Bool, true, false, List, [], ◌∷◌, ◌++◌, length, take, drop, ◌==◌, nat_lt, slice_index}
+use Rattle.std.specs.Prelude.{◌≡◌, ℕ, ◌+◌, ◌-◌, ◌*◌, ◌<◌, ◌≤◌, Bool, true, false, Option, Some, None, List, [], ◌∷◌, ◌++◌, length, take, drop, ◌==◌, nat_lt, slice_index}
 use Rattle.format.specs.Choice.{pick, either}
 use Rattle.format.specs.Bits.{spread, adjusted}
 use Rattle.format.specs.Items.{Items, is_string}
@@ -83,28 +83,6 @@ unfoldable pub contents_say : Bool → ℕ → List ℕ → Outcome
 unfolding pick characters reads
 contents_say raw d c = pick raw (says (characters c)) (reads d c)
 
-pub record StringFits (raw : Bool) (d : ℕ) (c t : List ℕ) : Type 0 where
-  pub items : Items
-  pub said : contents_say raw d c ≡ says items
-  pub chars : is_string items ≡ true
-  pub room : length (text_words items) ≤ length t
-  pub few : length (text_words items) ≤ word_limit
-
-pub record StringPut (raw : Bool) (d : ℕ) (c t t' : List ℕ) (r : ℕ) : Type 0 where
-  pub items : Items
-  pub said : contents_say raw d c ≡ says items
-  pub chars : is_string items ≡ true
-  pub count_is : r ≡ count items
-  pub table_is : t' ≡ over (text_words items) t
-
--- contents say the same where they are taken so
-abbrev pub Bytewise : Bool → List ℕ → Bool → Type 0
-Bytewise raw c each = (d : ℕ) → contents_say each d c ≡ contents_say raw d c
-
--- whether contents are a string's
-abbrev pub TextIn : Bool → ℕ → List ℕ → Bool → Type 0
-TextIn raw d c r = (xs : Items) → contents_say raw d c ≡ says xs → r ≡ is_string xs
-
 -- An object is tried as a string: its contents come to `o`, and `is_one` tells of their items whether it is one. They are accepted,
 -- and have room if it is.
 pub record TextRoom (o : Outcome) (is_one : Items → Bool) (base gap : ℕ) (t : List ℕ) : Type 0 where
@@ -112,16 +90,29 @@ pub record TextRoom (o : Outcome) (is_one : Items → Bool) (base gap : ℕ) (t 
   pub said : o ≡ says items
   pub room : is_one items ≡ true → (3 ≤ gap) × (gap + (base + length (text_words items)) ≤ length t) × (base + length (text_words items) ≤ word_limit)
 
--- a string is laid out, r one more than its data words
+-- a string is laid out, with r data words
 pub record TextLaid (items : Items) (base gap : ℕ) (t t' : List ℕ) (r : ℕ) : Type 0 where
-  pub words_are : r ≡ suc (length (text_words items))
+  pub words_are : r ≡ length (text_words items)
   pub front_is : take gap t' ≡ over (9 ∷ count items ∷ base ∷ []) (take gap t)
   pub back_is : drop gap t' ≡ over_at base (text_words items) (drop gap t)
 
 -- or it is none, and nothing is written
-pub record Tried (is_one : Bool) (items : Items) (base gap : ℕ) (t t' : List ℕ) (r : ℕ) : Type 0 where
-  pub laid : is_one ≡ true → TextLaid items base gap t t' r
-  pub none : is_one ≡ false → (r ≡ 0) × (t' ≡ t)
+pub record Tried (is_one : Bool) (items : Items) (base gap : ℕ) (t t' : List ℕ) (r : Option ℕ) : Type 0 where
+  pub laid : is_one ≡ true → (n : ℕ) × (r ≡ Some n) × TextLaid items base gap t t' n
+  pub none : is_one ≡ false → (r ≡ None) × (t' ≡ t)
 
-abbrev pub TextTried : Outcome → (Items → Bool) → ℕ → ℕ → List ℕ → List ℕ → ℕ → Type 0
+abbrev pub TextTried : Outcome → (Items → Bool) → ℕ → ℕ → List ℕ → List ℕ → Option ℕ → Type 0
 TextTried o is_one base gap t t' r = (xs : Items) → o ≡ says xs → Tried (is_one xs) xs base gap t t' r
+
+-- contents that are known for a string's
+pub record StringRoom (raw : Bool) (d : ℕ) (c : List ℕ) (base gap : ℕ) (t : List ℕ) : Type 0 where
+  pub items : Items
+  pub said : contents_say raw d c ≡ says items
+  pub chars : is_string items ≡ true
+  pub room : (3 ≤ gap) × (gap + (base + length (text_words items)) ≤ length t) × (base + length (text_words items) ≤ word_limit)
+
+pub record StringLaid (raw : Bool) (d : ℕ) (c : List ℕ) (base gap : ℕ) (t t' : List ℕ) (r : ℕ) : Type 0 where
+  pub items : Items
+  pub said : contents_say raw d c ≡ says items
+  pub chars : is_string items ≡ true
+  pub laid : TextLaid items base gap t t' r

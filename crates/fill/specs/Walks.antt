@@ -7,8 +7,8 @@ use Rattle.format.specs.Answers.{over}
 use Rattle.format.specs.Lent.{over_at}
 use Rattle.format.specs.Refusals.{row_limit, word_limit}
 use Rattle.format.specs.Runs.{object_at}
-use Rattle.fill.specs.declared.plain.Placed.{Placed}
-use Rattle.fill.specs.declared.walk.Filled.{Filled}
+use Rattle.fill.specs.declared.place.Placed.{Placed}
+use Rattle.fill.specs.declared.place.Filled.{Filled}
 
 -- The data start `gap` words on, and `base` words of them come before. The rows have room before the data, the data words in
 -- the table, and both keep to the limits.
@@ -45,4 +45,4 @@ pub record RunFilled (d : ℕ) (s : List ℕ) (base gap : ℕ) (t t' : List ℕ)
 pub record ObjectFilled (d b : ℕ) (s : List ℕ) (base gap : ℕ) (t t' : List ℕ) (r : Placed) : Type 0 where
   pub items : Items
   pub said : object_at d b s ≡ got items r.past
-  pub laid : Laid items base gap t t' r.rows r.count r.words
+  pub laid : Laid items base gap t t' r.filled.rows r.filled.count r.filled.words

@@ -3,7 +3,6 @@ ghost use Rattle.std.specs.Prelude.{◌≡◌, ◌+◌, ◌*◌, ◌<◌, ◌≤
 ghost use Rattle.format.specs.Bits.{spread, adjusted, packed, bytes_for, words_for};
 ghost use Rattle.format.specs.Answers.{over};
 
-use super::least::least;
 use wire::integer::{number, word_at};
 
 // The first n bits of the bytes c, left-adjusted in a word whose other bits are 0.
@@ -14,7 +13,7 @@ fn word_of(c: &[u8], n: usize) -> u64
     if n == 64 {
         return word_at(c, 0);
     }
-    let k = (n + 7) / 8;
+    let k = n.div_ceil(8);
     (number(c, k) >> (8 * k - n)) << (64 - n)
 }
 
@@ -23,11 +22,9 @@ pub fn put_bits(c: &[u8], n: usize, table: &mut [u64])
     requires { (bytes_for n ≤ length c.now) × (n ≤ 1048576) × (words_for n ≤ length table.old) }
     ensures { table.new ≡ over (packed 64 (words_for n) (take n (spread 8 c.now))) table.old }
 {
-    let words = (n + 63) / 64;
-    let mut j: usize = 0;
-    while j < words {
+    let words = n.div_ceil(64);
+    for j in 0..words {
         let from = 8 * j;
-        table[j] = word_of(&c[from..], least(n - 64 * j, 64));
-        j += 1;
+        table[j] = word_of(&c[from..], (n - 64 * j).min(64));
     }
 }

@@ -18,7 +18,7 @@ fn put_some(table: &mut [u64], n: usize, word: u64, k: usize)
         table[j] = word;
         return;
     }
-    table[j] = std::num::wrapping_add_u64(table[j], word >> r);
+    table[j] = table[j].wrapping_add(word >> r);
     if r + 8 * k > 64 {
         table[j + 1] = word << (64 - r);
     }
@@ -43,7 +43,7 @@ fn eight_at(table: &[u64], n: usize) -> u64
     if r == 0 {
         return table[j];
     }
-    std::num::wrapping_add_u64(table[j] << r, table[j + 1] >> (64 - r))
+    (table[j] << r).wrapping_add(table[j + 1] >> (64 - r))
 }
 
 // Eight bytes from i on as a word, each without its high bit.
@@ -54,11 +54,12 @@ fn low_eight(c: &[u8], i: usize) -> u64
     word_at(c, i) & 0x7f7f7f7f7f7f7f7f
 }
 
-// The first k bytes, each without its high bit, left-adjusted in a word.
-fn low_some(c: &[u8], k: usize) -> u64
-    requires { (0 < k) × (k ≤ 8) × (k ≤ length c.now) }
-    ensures { result ≡ word_of (lows (take k c.now)) }
+// A few bytes, each without its high bit, left-adjusted in a word.
+fn low_some(c: &[u8]) -> u64
+    requires { (0 < length c.now) × (length c.now ≤ 8) }
+    ensures { result ≡ word_of (lows c.now) }
 {
+    let k = c.len();
     (number(c, k) & 0x7f7f7f7f7f7f7f7f) << (64 - 8 * k)
 }
 
@@ -67,13 +68,14 @@ pub fn put_low(c: &[u8], n: usize, table: &mut [u64])
     requires { n + length c.now ≤ 8 * length table.old }
     ensures { Spelt n (lows c.now) table.old table.new }
 {
-    let mut i: usize = 0;
-    while c.len() - i >= 8 {
-        put_some(table, n + i, low_eight(c, i), 8);
-        i += 8;
+    let eights = c.len() / 8;
+    for j in 0..eights {
+        put_some(table, n + 8 * j, low_eight(c, 8 * j), 8);
     }
-    if i < c.len() {
-        put_some(table, n + i, low_some(&c[i..], c.len() - i), c.len() - i);
+    let from = 8 * eights;
+    let rest = &c[from..];
+    if !rest.is_empty() {
+        put_some(table, n + from, low_some(rest), rest.len());
     }
 }
 
@@ -93,15 +95,12 @@ fn copy_from(table: &mut [u64], n: usize, m: usize, k: usize, from: usize)
     let end = n + k * m;
     let period = period_of(m);
     let mut to = from;
+    // A step is one code or eight, as the codes lie, so no `for` counts it.
     while to < end {
-        if end - to >= 8 {
-            if to % 8 == 0 {
-                if to - n >= period {
-                    table[to / 8] = eight_at(table, to - period);
-                    to += 8;
-                    continue;
-                }
-            }
+        if end - to >= 8 && to % 8 == 0 && to - n >= period {
+            table[to / 8] = eight_at(table, to - period);
+            to += 8;
+            continue;
         }
         put_some(table, to, code_at(table, to - m) << 56, 1);
         to += 1;

@@ -10,13 +10,14 @@ ghost use Rattle.format.specs.Refusals.{byte_limit, row_limit};
 mod bits;
 mod codes;
 mod copies;
-mod least;
+mod place;
 mod plain;
 mod stretch;
 mod text;
 mod tries;
 mod walk;
 
+use place::Place;
 use walk::fill_run;
 
 // Rows and data words, behind the header; answers the number of outermost items.
@@ -27,8 +28,11 @@ fn put_items(message: &[u8], table: &mut [u64], rows: usize, words: usize) -> us
     if rows == 0 {
         return 0;
     }
-    let f = fill_run(0, message, 0, 3 * rows, &mut table[4..]);
-    f.count
+    let place = Place {
+        gap: 3 * rows,
+        base: 0,
+    };
+    fill_run(0, message, place, &mut table[4..]).count
 }
 
 fn put_header(table: &mut [u64], rows: usize, count: usize, words: usize)

@@ -9,10 +9,9 @@ use lib.ListN.{length, drop, length-drop}
 use lib.Seq.{length-take-le}
 use Rattle.format.specs.declared.Class.{Class}
 use Rattle.format.specs.declared.Class.TheVariants as C
-use Rattle.format.specs.declared.fault.Fault.{Fault}
 use Rattle.format.specs.Items.{Items, uniform, edt_rule}
 use Rattle.format.specs.Classes.{class_of}
-use Rattle.format.specs.Refusals.{further}
+use Rattle.format.specs.Refusals.{Fault, further}
 use Rattle.format.specs.Objects as O
 use Rattle.format.specs.Messages.{Outcome, refused, says, Object, bad, got, closing, around, object, onto, next, run, reads}
 use Rattle.format.specs.Runs.{object_at}

@@ -10,8 +10,7 @@ use lib.ListN.{length, drop, get_or, length-append}
 use Rattle.format.specs.Choice.{if_lt, if_eq}
 use Rattle.format.specs.declared.Class.{Class}
 use Rattle.format.specs.declared.Class.TheVariants as C
-use Rattle.format.specs.declared.fault.Fault.{Fault}
-use Rattle.format.specs.Refusals.{wants}
+use Rattle.format.specs.Refusals.{Fault, wants}
 use Rattle.format.specs.Classes.{class_of}
 use Rattle.format.specs.Objects as O
 use Rattle.format.specs.Messages.{refused, object, next, reads, outcome}

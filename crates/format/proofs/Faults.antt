@@ -5,8 +5,7 @@ use mathlib.Core.Logic.{◌⊎◌, inl, inr, ◌↔◌}
 use mathlib.Core.List.{List}
 use native.Mathlib.Omega.{arith}
 use lib.ListN.{length}
-use Rattle.format.specs.declared.fault.Fault.{Fault}
-use Rattle.format.specs.Refusals.{wants, byte_limit}
+use Rattle.format.specs.Refusals.{Fault, wants, byte_limit}
 use Rattle.format.specs.Objects.{past_end}
 use Rattle.format.specs.Messages.{refused, reads, outcome}
 use Rattle.format.proofs.HeadCases.{Lacking}

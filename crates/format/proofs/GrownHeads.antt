@@ -8,9 +8,8 @@ use mathlib.Core.Option.{Option, some}
 use mathlib.Core.List.{List, [], ◌∷◌, ◌++◌}
 use lib.ListN.{length, take, drop, length-append, length-drop}
 use lib.Seq.{take-append-le, drop-append-le}
-use Rattle.format.specs.declared.fault.Fault.{Fault}
 use Rattle.format.specs.Numbers.{val}
-use Rattle.format.specs.Refusals.{wants}
+use Rattle.format.specs.Refusals.{Fault, wants}
 use Rattle.format.specs.Objects as O
 use Rattle.format.specs.Extents.{extent_of}
 use Rattle.format.proofs.Choices.{if_lt_yes, if_lt_no, by_lt, by_lt₂}

@@ -8,9 +8,8 @@ use lib.ListN.{length, take, drop}
 use lib.Seq.{length-take-le}
 use lib.IntN.{pos, negsuc}
 use Rattle.format.specs.Numbers.{Bytes}
-use Rattle.format.specs.declared.fault.Fault.{Fault}
 use Rattle.format.specs.Bits.{spread, after_marker, bytes_for}
-use Rattle.format.specs.Refusals.{here, wants, bad_bits, bad_repeat, byte_limit, depth_limit}
+use Rattle.format.specs.Refusals.{Fault, here, wants, bad_bits, bad_repeat, byte_limit, depth_limit}
 use Rattle.format.specs.Items.{int, bits, struc, end, group, one}
 use Rattle.format.specs.declared.Class.{Class}
 use Rattle.format.specs.declared.Class.TheVariants.{Char7, Sinteger, Linteger, Sbitstr, Lbitstr, String, Struc, Ustruc, Edt, Repeat, Xtra, Bool, Empty, Padding, Reserved}

@@ -6,7 +6,7 @@ use mathlib.Core.Bool.{true}
 use mathlib.Core.List.{List, [], ◌∷◌, ◌++◌}
 use lib.ListN.{length}
 use lib.Dec.{eqb}
-use Rattle.format.specs.declared.fault.Fault.{Fault}
+use Rattle.format.specs.Refusals.{Fault}
 use Rattle.format.specs.Items.{Group, struc, edt, Items, group, join, INT, BITS, CHAR, BOOL, EMPTY, XTRA, STRUC, EDT, leaf_kind, group_kind, kinds, all_of, alike, uniform, edt_rule}
 use Rattle.format.specs.declared.Class.{Class}
 use Rattle.format.specs.declared.Class.TheVariants as C

@@ -8,8 +8,7 @@ use lib.ListN.{length, take, drop}
 use lib.Seq.{length-take-le}
 use lib.Signed.{mag}
 use Rattle.format.specs.Numbers.{Bytes}
-use Rattle.format.specs.declared.fault.Fault.{Fault}
-use Rattle.format.specs.Refusals.{depth_limit}
+use Rattle.format.specs.Refusals.{Fault, depth_limit}
 use Rattle.format.specs.Items.{Leaf, int, bits, char, empty, xtra, Group, struc, edt, Items, end, group, one, uniform, edt_rule, proper_leaf, proper_group, proper}
 use Rattle.format.specs.declared.Class.{Class}
 use Rattle.format.specs.declared.Class.TheVariants.{Char7, Sinteger, Linteger, Sbitstr, Lbitstr, String, Struc, Ustruc, Edt, Repeat, Xtra, Bool as Boolean, Empty, Padding, Reserved}

@@ -10,8 +10,7 @@ use lib.ListN.{length, take, drop, get_or, length-drop, drop_of_length-le}
 use lib.Seq.{drop-cons, drop-drop}
 use Rattle.format.specs.declared.Class.{Class}
 use Rattle.format.specs.declared.Class.TheVariants as C
-use Rattle.format.specs.declared.fault.Fault.{Fault}
-use Rattle.format.specs.Refusals.{further}
+use Rattle.format.specs.Refusals.{Fault, further}
 use Rattle.format.specs.Items.{Items, end, leaf, one, join, char, int}
 use lib.IntN.{pos}
 use Rattle.format.specs.Classes.{class_of}

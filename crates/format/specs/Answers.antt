@@ -2,8 +2,7 @@
 use Rattle.std.specs.Prelude.{ℕ, List, ◌++◌, length, drop}
 use Rattle.std.proofs.Math.Option.{Option, none, some}
 use Rattle.format.specs.Choice.{if_lt, if_eq}
-use Rattle.format.specs.declared.fault.Fault.{Fault}
-use Rattle.format.specs.Refusals.{too_long, too_many, table_short, not_a_table, too_nested, normal_long, output_short, byte_limit, row_limit, word_limit, depth_limit}
+use Rattle.format.specs.Refusals.{Fault, too_long, too_many, table_short, not_a_table, too_nested, normal_long, output_short, byte_limit, row_limit, word_limit, depth_limit}
 use Rattle.format.specs.Items.{Items}
 use Rattle.format.specs.Messages.{Outcome, refused, says, outcome}
 use Rattle.format.specs.Tables.{rows, data_words, table_of, words_needed, items_of}

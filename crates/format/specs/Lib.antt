@@ -15,8 +15,10 @@ pub mod Answers
 pub mod Extents
 pub mod Examples
 -- No meanings, but what contracts cite beside them: how the code numbers the classes, and the count by which it tells them; a run
--- piece by piece; a lent slice that is written in part.
+-- piece by piece; a lent slice that is written in part; the kinds and the refusals by the code's names.
 pub mod Codes
 pub mod Ones
 pub mod Runs
 pub mod Lent
+pub mod Kinds
+pub mod Refused

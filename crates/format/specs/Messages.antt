@@ -1,8 +1,7 @@
 -- What a message says, or how it is refused: "left to right, the first fault met".
 use Rattle.std.specs.Prelude.{ℕ, zero, suc, ◌+◌, Bool, true, false, List, [], ◌∷◌, length, drop}
 use Rattle.format.specs.Choice.{pick, both}
-use Rattle.format.specs.declared.fault.Fault.{Fault}
-use Rattle.format.specs.Refusals.{several_kinds, bad_edt, here, further}
+use Rattle.format.specs.Refusals.{Fault, several_kinds, bad_edt, here, further}
 use Rattle.format.specs.Items.{struc, edt, Items, end, group, join, times, uniform, edt_rule}
 use Rattle.format.specs.Objects.{Wrap, as_struc, as_ustruc, as_edt, repeated, Head, stop, gives, opens, contents, head_of}
 

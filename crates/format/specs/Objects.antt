@@ -4,8 +4,7 @@ use Rattle.std.specs.Prelude.{ℕ, zero, suc, ◌+◌, ◌-◌, ◌%◌, List, [
 use Rattle.format.specs.Choice.{if_lt, if_eq}
 use Rattle.format.specs.Numbers.{val, signed}
 use Rattle.format.specs.Bits.{is_one, spread, bytes_for, after_marker}
-use Rattle.format.specs.declared.fault.Fault.{Fault}
-use Rattle.format.specs.Refusals.{past_input, past_enclosing, unassigned, too_deep, bad_bits, bad_repeat, here, wants, further, depth_limit}
+use Rattle.format.specs.Refusals.{Fault, past_input, past_enclosing, unassigned, too_deep, bad_bits, bad_repeat, here, wants, further, depth_limit}
 use Rattle.format.specs.Items.{int, bits, char, bool, empty, xtra, struc, Items, end, leaf, group, one}
 use Rattle.format.specs.declared.Class.{Class}
 use Rattle.format.specs.declared.Class.TheVariants.{Char7, Sinteger, Linteger, Sbitstr, Lbitstr, String, Struc, Ustruc, Edt, Repeat, Xtra, Bool, Empty, Padding, Reserved}

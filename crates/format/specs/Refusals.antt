@@ -1,6 +1,5 @@
 -- "The numbers by the shears": with which a message or a table is refused, and the limits.
 use Rattle.std.specs.Prelude.{ℕ, ◌+◌, min}
-use Rattle.format.specs.declared.fault.Fault.{Fault}
 
 -- 1: "input over 65,536 bytes"
 abbrev pub too_long : ℕ
@@ -91,8 +90,12 @@ word_limit = 16384
 abbrev pub depth_limit : ℕ
 depth_limit = 16
 
--- A fault of a message (the struct of src/fault.rt): its `number`; its `place`, "the offset of the faulty object's type-byte", counted
--- from the start of whatever is being read, so 0 at first, and moved outward with it; and `missing`, "how many bytes are wanting".
+-- A fault of a message: its `number`; its `place`, "the offset of the faulty object's type-byte", counted from the start of whatever is
+-- being read, so 0 at first, and moved outward with it; and `missing`, "how many bytes are wanting".
+pub record Fault : Type 0 where
+  pub number : ℕ
+  pub place : ℕ
+  pub missing : ℕ
 
 -- "it is 0 with every other result"
 abbrev pub here : ℕ → Fault

@@ -1,95 +1,84 @@
-// A refusal of a message, one value from where a fault is met to the answer: made here, and moved outward here.
-ghost use Rattle.std.specs.Prelude.{◌≡◌, ◌+◌, ◌^◌, ◌<◌, min};
+// Why something is refused, and the fault of a message: one value from where it is met to the answer, made here and moved outward here.
+ghost use Rattle.std.specs.Prelude.{◌≡◌, ◌+◌, ◌^◌, ◌<◌};
 ghost use Rattle.format.specs.Refusals as R;
+ghost use Rattle.format.specs.Refused.{number_of, meant};
 
 use super::limits::MOST_BYTES;
 
-// The numbers, each written here alone. 2 to 9 are faults of a message; the others are met before one is read, where it is laid out,
-// where a table is written, where tables are compared, and where a measure sheet is read or written.
-pub const TOO_LONG: usize = 1;
+// Why something is refused, each with its number, written here alone. 2 to 9 are faults of a message; the others are met before one is
+// read, where it is laid out, where a table is written, where tables are compared, and where a measure sheet is read or written.
+#[derive(Clone, Copy, Debug, PartialEq, Eq)]
+pub enum Refusal {
+    TooLong = 1,
+    PastInput = 2,
+    PastEnclosing = 3,
+    Unassigned = 4,
+    TooDeep = 5,
+    BadBits = 6,
+    BadRepeat = 7,
+    SeveralKinds = 8,
+    BadEdt = 9,
+    TooMany = 10,
+    TableShort = 11,
+    NotATable = 12,
+    TooNested = 13,
+    NormalLong = 14,
+    OutputShort = 15,
+    ListShort = 16,
+    NotASheet = 20,
+    FigureEmpty = 21,
+    FigureRange = 22,
+}
 
-pub const PAST_INPUT: usize = 2;
+impl Refusal {
+    // The number by the shears.
+    pub fn number(self) -> usize
+        ensures { result ≡ number_of self }
+    {
+        self as usize
+    }
+}
 
-pub const PAST_ENCLOSING: usize = 3;
-
-pub const UNASSIGNED: usize = 4;
-
-pub const TOO_DEEP: usize = 5;
-
-pub const BAD_BITS: usize = 6;
-
-pub const BAD_REPEAT: usize = 7;
-
-pub const SEVERAL_KINDS: usize = 8;
-
-pub const BAD_EDT: usize = 9;
-
-pub const TOO_MANY: usize = 10;
-
-pub const TABLE_SHORT: usize = 11;
-
-pub const NOT_A_TABLE: usize = 12;
-
-pub const TOO_NESTED: usize = 13;
-
-pub const NORMAL_LONG: usize = 14;
-
-pub const OUTPUT_SHORT: usize = 15;
-
-pub const LIST_SHORT: usize = 16;
-
-pub const NOT_A_SHEET: usize = 20;
-
-pub const FIGURE_EMPTY: usize = 21;
-
-pub const FIGURE_RANGE: usize = 22;
-
-// The number; the offset of the faulty object's type-byte, from the start of what is being read; and with 2 and 3 the bytes that
-// are missing, otherwise 0.
-#[derive(Clone, Copy)]
+// A fault of a message: why it is refused; the offset of the faulty object's type-byte, from the start of what is being read; and the
+// bytes that are missing where it ends too early, otherwise 0.
+#[derive(Clone, Copy, Debug, PartialEq, Eq)]
 pub struct Fault {
-    pub number: usize,
+    pub refusal: Refusal,
     pub place: usize,
     pub missing: usize,
 }
 
-// A fault of what is being read, for which no bytes are missing.
-pub fn here(number: usize) -> Fault
-    ensures { result ≡ R.here number }
-{
-    Fault {
-        number,
-        place: 0,
-        missing: 0,
+impl Fault {
+    // A fault of what is being read, for which no bytes are missing.
+    pub fn here(refusal: Refusal) -> Fault
+        ensures { meant result ≡ R.here (number_of refusal) }
+    {
+        Fault {
+            refusal,
+            place: 0,
+            missing: 0,
+        }
     }
-}
 
-// Missing bytes are told up to 65,536.
-fn told(k: usize) -> usize
-    ensures { result ≡ min k 65536 }
-{
-    if k <= MOST_BYTES { k } else { MOST_BYTES }
-}
-
-// One for which k bytes are missing.
-pub fn wants(number: usize, k: usize) -> Fault
-    ensures { result ≡ R.wants number k }
-{
-    Fault {
-        number,
-        place: 0,
-        missing: told(k),
+    // One for which k bytes are missing. They are told up to 65,536.
+    pub fn wants(refusal: Refusal, k: usize) -> Fault
+        ensures { meant result ≡ R.wants (number_of refusal) k }
+    {
+        Fault {
+            refusal,
+            place: 0,
+            missing: k.min(MOST_BYTES),
+        }
     }
-}
 
-// A fault of what stands n bytes further on.
-pub fn further(n: usize, f: Fault) -> Fault
-    requires { n + f.place < 2 ^ 64 }
-    ensures { result ≡ R.further n f }
-{
-    Fault {
-        number: f.number,
-        place: n + f.place,
-        missing: f.missing,
+    // The fault where what was read stands n bytes further on.
+    pub fn further(self, n: usize) -> Fault
+        requires { n + self.place < 2 ^ 64 }
+        ensures { meant result ≡ R.further n (meant self) }
+    {
+        Fault {
+            place: n + self.place,
+            ..self
+        }
     }
 }

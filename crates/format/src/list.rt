@@ -4,7 +4,8 @@ ghost use Rattle.std.specs.Prelude.{◌≡◌};
 ghost use Rattle.format.specs.Classes.{class_of};
 ghost use Rattle.format.specs.Codes.{code_of};
 
-// The class of each type-byte in order, as its place in the enum of classes.
+// The class of each type-byte in order, as its place in the enum of classes. Codes, since of an array of classes the goal `returns`
+// of `listed` did not close: the proof builds such an array entry by entry.
 const CLASSES: [u8; 256] = [
     // 00-7F: CHAR7
     0, 0, 0, 0, 0, 0, 0, 0, 0, 0, 0, 0, 0, 0, 0, 0, 0, 0, 0, 0, 0, 0, 0, 0, 0, 0, 0, 0, 0, 0, 0, 0,

@@ -6,18 +6,12 @@ ghost use Rattle.format.specs.Numbers.{signed, twos};
 pub fn value_of(w: u64) -> i64
     ensures { result ≡ signed 8 w }
 {
-    if w < 0x8000_0000_0000_0000 {
-        return w as i64;
-    }
-    -1 - ((0xffff_ffff_ffff_ffff - w) as i64)
+    w.cast_signed()
 }
 
 // The word of a whole number: its value modulo 2^64.
 pub fn word_of(z: i64) -> u64
     ensures { result ≡ twos 8 z }
 {
-    if z < 0 {
-        return 0xffff_ffff_ffff_ffff - ((-1 - z) as u64);
-    }
-    z as u64
+    z.cast_unsigned()
 }

@@ -1,5 +1,5 @@
 // The RFC's tree: the class of a type-byte, by the ones at its high end.
-ghost use Rattle.std.specs.Prelude.{◌≡◌, eqb};
+ghost use Rattle.std.specs.Prelude.{◌≡◌, ◌↔◌, IsTrue, eqb};
 ghost use Rattle.format.specs.Classes.{class_of};
 ghost use Rattle.format.specs.Ones.{high_ones};
 
@@ -63,6 +63,13 @@ pub fn class_of(b: u8) -> Class
         7 => Class::Empty,
         _ => Class::Padding,
     }
+}
+
+// Whether a type-byte is of this class.
+pub fn is(class: Class, b: u8) -> bool
+    ensures { IsTrue result ↔ (class_of b ≡ class) }
+{
+    class_of(b) == class
 }
 
 // Whether a type-byte is that of a non-atomic object.

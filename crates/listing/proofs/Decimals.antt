@@ -1,7 +1,7 @@
 -- The digits of a number: how many there are, and that they are its lowest digit behind those of its tenth. Assumes nothing.
 use mathlib.Core.Path.{◌≡◌, refl, sym, ap, ap₂, ◌∙◌}
 use mathlib.Core.List.{List, [], ◌∷◌, ◌++◌}
-use Prim.Native.Nat.{ℕ, zero, suc, ◌+◌, ◌-◌, ◌*◌, ◌/◌, ◌%◌, ◌^◌, ◌≤◌, ◌<◌}
+use Prim.Native.Nat.{ℕ, zero, suc, ◌+◌, ◌-◌, ◌*◌, ◌/◌, ◌%◌, ◌^◌, ◌≤◌, ◌<◌, max}
 use native.Mathlib.Nat.{pow-suc}
 use native.Mathlib.Omega.{arith}
 use lib.ListN.{length, set, length-append}
@@ -45,6 +45,24 @@ count_most (suc k) n h =
 pub count_pos : (n : ℕ) → 0 < length (decimal n)
 count_pos n = split n 10 (λ l. omega (arith, count_one n l)) (λ l. omega (arith, count_on n l))
 
+power_pos : (k : ℕ) → 0 < 10 ^ k
+power_pos zero = omega arith
+power_pos (suc k) = omega (arith, pow-suc 10 k, power_pos k)
+
+-- as many as powers of ten are passed
+pub count_passed : (k n : ℕ) → 10 ^ k ≤ n → n < 10 * 10 ^ k → length (decimal n) ≡ k + 1
+count_passed zero n h l = count_one n (omega arith)
+count_passed (suc k) n h l =
+    let p = pow-suc 10 k in
+    let q = power_pos k in
+    omega (arith, count_on n (omega arith), count_passed k (n / 10) (omega arith) (omega arith))
+
+pub count_told : (n m k : ℕ) → m ≡ max n 1 → 10 ^ k ≤ m → m < 10 * 10 ^ k → k + 1 ≡ length (decimal n)
+count_told n m k e h l =
+    split n 10
+    (λ b. omega (arith, count_one n b, count_passed k m h l, count_one m (omega arith)))
+    (λ b. let q : m ≡ n = omega arith in ap (λ z. z) (sym (count_passed k n (rw (sym q) h) (rw (sym q) l))))
+
 -- ---- so many digits from the last on, and the step of the loop that writes them
 unfoldable pub last_digits : ℕ → ℕ → List ℕ
 last_digits zero n = []
@@ -82,8 +100,8 @@ pub signed_plus : (v : ℕ) → v < 0x8000000000000000 → signed_decimal (signe
 unfolding signed signed_decimal
 signed_plus v l = ap signed_decimal (if_lt_yes (2 * v) (256 ^ 8) (pos v) (negsuc (256 ^ 8 - 1 - v)) (omega arith))
 
-pub signed_minus : (v : ℕ) → 0x8000000000000000 ≤ v → signed_decimal (signed 8 v) ≡ 0x2d ∷ decimal (0xffffffffffffffff - v + 1)
+pub signed_minus : (v m : ℕ) → 0x8000000000000000 ≤ v → v < 2 ^ 64 → m < 2 ^ 64 → (m + v) % 2 ^ 64 ≡ 0 → signed_decimal (signed 8 v) ≡ (0x2d ∷ []) ++ decimal m
 unfolding signed signed_decimal
-signed_minus v l =
-    let e : suc (256 ^ 8 - 1 - v) ≡ 0xffffffffffffffff - v + 1 = omega arith in
-    ap signed_decimal (if_lt_no (2 * v) (256 ^ 8) (pos v) (negsuc (256 ^ 8 - 1 - v)) (omega arith)) ∙ ap (λ n. 0x2d ∷ decimal n) e
+signed_minus v m l h k e =
+    let n : suc (256 ^ 8 - 1 - v) ≡ m = omega arith in
+    ap signed_decimal (if_lt_no (2 * v) (256 ^ 8) (pos v) (negsuc (256 ^ 8 - 1 - v)) (omega arith)) ∙ ap (λ n. 0x2d ∷ decimal n) n

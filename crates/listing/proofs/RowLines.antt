@@ -4,23 +4,26 @@ use mathlib.Core.Bool.{Bool, false}
 use mathlib.Core.List.{List, [], ◌∷◌, ◌++◌, append_assoc, append-nil}
 use Prim.Native.Nat.{ℕ, zero, suc, ◌+◌, ◌-◌, ◌*◌, ◌/◌, ◌%◌, ◌^◌, ◌≤◌, ◌<◌}
 use native.Mathlib.Omega.{arith}
-use mathlib.Core.Logic.{◌≢◌}
-use lib.ListN.{length, drop, get_or, length-append}
+use mathlib.Core.Logic.{◌≢◌, ◌⊎◌, inl, inr}
+use lib.ListN.{length, drop, get_or, drop_of_length-le}
 use lib.Seq.{drop-drop, drop-cons}
 use Rattle.format.specs.Choice.{if_eq, pick}
 use Rattle.format.specs.Numbers.{signed}
 use Rattle.format.specs.Bits.{bit, adjusted, words_for}
 use Rattle.format.specs.Items.{Leaf, int, bits, char, bool, empty, xtra, Group, struc, edt, Items, leaf_kind, is_string}
 use Rattle.format.specs.Tables.{from_words, leaf_b, is_text, container_kind, row_kind, codes}
-use Rattle.format.proofs.Choices.{if_lt_yes, if_lt_no, if_eq_yes, if_eq_no}
+use Rattle.format.specs.Kinds.{word_of}
+use Rattle.format.specs.declared.kinds.Kind.{Kind}
+use Rattle.format.specs.declared.kinds.Kind.TheVariants as K
+use Rattle.format.proofs.Choices.{by_pick, if_lt_yes, if_lt_no, if_eq_yes, if_eq_no}
 use Rattle.format.proofs.BitLaws.{adjusted_div, adjusted_mod}
 use Rattle.format.proofs.TableLaws.{leaf_kind_lem, other_kind}
 use Rattle.table.proofs.Standing.{group_kind_lem}
 use Rattle.table.specs.Rows.{kind_at, a_at, b_at, data_of, leaf_at, LeafAt, text_at}
-use Rattle.table.proofs.RowData.{BitsRow, kept_at, kept_in, int_at_lem}
+use Rattle.table.proofs.RowData.{BitsRow, bits_at, kept_at, kept_in, int_at_lem}
 use Rattle.listing.specs.Lines.{decimal, signed_decimal, bit_text, bits_column, leaf_columns, group_columns, text_value, text_columns, line, newline}
-use Rattle.listing.specs.Puts.{Wrote}
-use Rattle.listing.specs.RowTexts.{kind_word, leaf_bits, leaf_value, value_at, row_text}
+use Rattle.listing.specs.RowTexts.{kind_word, leaf_bits, leaf_value, value_at, row_text, RowInOrder}
+use Rattle.listing.proofs.Putting.{drop_on}
 
 -- ---- the bits of a BITS
 bit_of_word : (j : ℕ) (bs : List Bool) → j < 64 → adjusted 64 bs / 2 ^ (63 - j) % 2 ≡ adjusted 1 (drop j bs)
@@ -42,6 +45,9 @@ pub text_length : (bs : List Bool) → length (bit_text bs) ≡ length bs
 unfolding bit_text
 text_length [] = refl
 text_length (b ∷ bs) = ap suc (text_length bs)
+
+pub bits_row : (w : List ℕ) (p : ℕ) → RowInOrder w p → kind_at w p ≡ 2 → BitsRow w p
+bits_row w p h k = bits_at w p (h.leaf (omega arith)) k
 
 module _ (w : List ℕ) (p : ℕ) (r : BitsRow w p) where
   abbrev stream : List Bool
@@ -67,8 +73,18 @@ module _ (w : List ℕ) (p : ℕ) (r : BitsRow w p) where
       ∙ ap (adjusted 1) (drop-drop (i % 64) (64 * (i / 64)) stream ∙ ap (λ z. drop z stream) e)
       ∙ bit_first stream i (omega arith)) ∙ sym (text_at_lem stream i (omega arith)))
 
+  -- one bit, and those behind it
+  pub bits_on : (i : ℕ) → i < a_at w p → drop i (bit_text (leaf_bits (leaf_at w p)))
+      ≡ ((0x30 + get_or w (3 * get_or w 0 0 + 4 + b_at w p + i / 64) 0 / 2 ^ (63 - i % 64) % 2) ∷ []) ++ drop (i + 1) (bit_text (leaf_bits (leaf_at w p)))
+  bits_on i h =
+      drop_on (bit_text (leaf_bits (leaf_at w p))) i (omega (arith, stream_length))
+      ∙ ap (λ b. b ∷ drop (i + 1) (bit_text (leaf_bits (leaf_at w p)))) (sym (stream_at i h))
+
+  pub bits_end : (i : ℕ) → a_at w p ≤ i → drop i (bit_text (leaf_bits (leaf_at w p))) ≡ []
+  bits_end i h = drop_of_length-le (bit_text (leaf_bits (leaf_at w p))) {i = i} (omega (arith, stream_length))
+
   -- the number of bits, then nothing, or a space and the bits
-  value_is : leaf_value (leaf_at w p) ≡ decimal (a_at w p) ++ bits_column stream
+  pub value_is : leaf_value (leaf_at w p) ≡ decimal (a_at w p) ++ bits_column stream
   unfolding leaf_value
   value_is = ap leaf_value r.is ∙ ap (λ n. decimal n ++ bits_column stream) r.kept.number
 
@@ -87,26 +103,20 @@ module _ (w : List ℕ) (p : ℕ) (r : BitsRow w p) where
       go [] e = absurd (omega arith)
       go (b ∷ bs) e = unfold bits_column in refl
 
-  pub bits_long : length (decimal (a_at w p)) ≤ length (leaf_value (leaf_at w p))
-  bits_long = rw value_is (omega (arith, length-append (decimal (a_at w p)) (bits_column stream)))
+-- ---- the kinds of rows
+pub known_leaf : (l : Leaf) → (0 < leaf_kind l) × (leaf_kind l ≤ 9)
+unfolding leaf_kind
+known_leaf (int z) = (omega arith, omega arith)
+known_leaf (bits bs) = (omega arith, omega arith)
+known_leaf (char c) = (omega arith, omega arith)
+known_leaf (bool b) = (omega arith, omega arith)
+known_leaf empty = (omega arith, omega arith)
+known_leaf (xtra n) = (omega arith, omega arith)
 
--- ---- the word of a kind
-pub word_length : (k n : ℕ) → k ≡ n → length (kind_word k) ≡ length (kind_word n)
-word_length k n e = rw e refl
-
-pub word_of : (k n : ℕ) {p e : ℕ} {t u : List ℕ} → k ≡ n → Wrote p (kind_word n) t e u → Wrote p (kind_word k) t e u
-word_of k n q w = rw q w
-
--- k is none of the numbers from 1 to n, as a `match` tells it
-abbrev pub NoneTo : ℕ → ℕ → Type 0
-NoneTo zero k = Unit {0}
-NoneTo (suc n) k = NoneTo n k × (k ≡ suc n → ⊥)
-
-pub last_word_lem : (k : ℕ) → NoneTo 7 k → (k ≡ 9 → ⊥) → kind_word k ≡ kind_word 8
-unfolding kind_word if_eq pick
-last_word_lem k r n =
-    if_eq_no k 1 _ _ r.0.0.0.0.0.0.1 ∙ if_eq_no k 2 _ _ r.0.0.0.0.0.1 ∙ if_eq_no k 3 _ _ r.0.0.0.0.1 ∙ if_eq_no k 4 _ _ r.0.0.0.1 ∙ if_eq_no k 5 _ _ r.0.0.1
-    ∙ if_eq_no k 6 _ _ r.0.1 ∙ if_eq_no k 7 _ _ r.1 ∙ if_eq_no k 9 _ _ n
+pub known_group : (g : Group) (c : Items) → row_kind g c ≤ 9
+unfolding row_kind container_kind is_text
+known_group struc c = by_pick (λ k. k ≤ 9) (is_string c) (λ t. omega arith) (λ t. omega arith)
+known_group edt c = unfold pick in omega arith
 
 -- ---- the columns by kind
 leaf_columns_lem : (l : Leaf) → leaf_columns l ≡ kind_word (leaf_kind l) ++ leaf_value l
@@ -147,29 +157,52 @@ plain_value (xtra n) d i b e = refl
 
 -- ---- what a row has behind its kind
 module _ (w : List ℕ) (p : ℕ) where
-  pub value_group : 7 ≤ kind_at w p → (kind_at w p ≡ 9 → ⊥) → value_at w p ≡ decimal (a_at w p)
+  value_group : 7 ≤ kind_at w p → (kind_at w p ≡ 9 → ⊥) → value_at w p ≡ decimal (a_at w p)
   unfolding value_at
   value_group h n = if_lt_no (kind_at w p) 7 _ _ h ∙ if_eq_no (kind_at w p) 9 _ _ n
 
-  pub value_text : kind_at w p ≡ 9 → value_at w p ≡ text_value (codes (text_at w p))
+  value_text : kind_at w p ≡ 9 → value_at w p ≡ text_value (codes (text_at w p))
   unfolding value_at
   value_text k = if_lt_no (kind_at w p) 7 _ _ (omega arith) ∙ if_eq_yes (kind_at w p) 9 _ _ k
 
-  pub value_leaf : kind_at w p < 7 → value_at w p ≡ leaf_value (leaf_at w p)
+  value_leaf : kind_at w p < 7 → value_at w p ≡ leaf_value (leaf_at w p)
   unfolding value_at
   value_leaf h = if_lt_yes (kind_at w p) 7 _ _ h
 
-  pub value_int : kind_at w p ≡ 1 → value_at w p ≡ signed_decimal (signed 8 (b_at w p))
-  unfolding leaf_value
-  value_int k = value_leaf (omega arith) ∙ ap leaf_value (int_at_lem w p k)
+  plain : RowInOrder w p → kind_at w p < 7 → kind_at w p ≢ 1 → kind_at w p ≢ 2 → kind_at w p ≢ 5 → value_at w p ≡ decimal (b_at w p)
+  plain h l i b e =
+      let r = (h.leaf l).row in
+      value_leaf l ∙ plain_value (leaf_at w p) (h.leaf l).before (λ z. i (r.kind ∙ z)) (λ z. b (r.kind ∙ z)) (λ z. e (r.kind ∙ z)) ∙ ap decimal (sym r.b)
 
-  pub value_empty : LeafAt w p → kind_at w p ≡ 5 → value_at w p ≡ []
-  value_empty h k = value_leaf (omega arith) ∙ empty_value (leaf_at w p) (sym h.row.kind ∙ k)
+  -- by the kind that the row has
+  module _ (k : Kind) (r : word_of k ≡ kind_at w p) where
+    kind_is : (j : Kind) → k ≡ j → kind_at w p ≡ word_of j
+    kind_is j e = sym r ∙ ap word_of e
 
-  pub value_plain : LeafAt w p → kind_at w p < 7 → kind_at w p ≢ 1 → kind_at w p ≢ 2 → kind_at w p ≢ 5 → value_at w p ≡ decimal (b_at w p)
-  value_plain h l i b e =
-      let k = h.row.kind in
-      value_leaf l ∙ plain_value (leaf_at w p) h.before (λ z. i (k ∙ z)) (λ z. b (k ∙ z)) (λ z. e (k ∙ z)) ∙ ap decimal (sym h.row.b)
+    pub int_row : k ≡ K.Int → value_at w p ≡ signed_decimal (signed 8 (b_at w p))
+    unfolding leaf_value
+    int_row e = let n = kind_is K.Int e in value_leaf (omega arith) ∙ ap leaf_value (int_at_lem w p n)
+
+    pub bits_value : k ≡ K.Bits → value_at w p ≡ leaf_value (leaf_at w p)
+    bits_value e = let n = kind_is K.Bits e in value_leaf (omega arith)
+
+    pub code_row : RowInOrder w p → (k ≡ K.Char) ⊎ ((k ≡ K.Bool) ⊎ (k ≡ K.Xtra)) → value_at w p ≡ decimal (b_at w p)
+    code_row h (inl e) = let n = kind_is K.Char e in plain h (omega arith) (λ z. omega arith) (λ z. omega arith) (λ z. omega arith)
+    code_row h (inr (inl e)) = let n = kind_is K.Bool e in plain h (omega arith) (λ z. omega arith) (λ z. omega arith) (λ z. omega arith)
+    code_row h (inr (inr e)) = let n = kind_is K.Xtra e in plain h (omega arith) (λ z. omega arith) (λ z. omega arith) (λ z. omega arith)
+
+    pub empty_row : RowInOrder w p → k ≡ K.Empty → value_at w p ≡ []
+    empty_row h e =
+        let n = kind_is K.Empty e in
+        let l = h.leaf (omega arith) in
+        value_leaf (omega arith) ∙ empty_value (leaf_at w p) (sym l.row.kind ∙ n)
+
+    pub group_row : (k ≡ K.Struc) ⊎ (k ≡ K.Edt) → value_at w p ≡ decimal (a_at w p)
+    group_row (inl e) = let n = kind_is K.Struc e in value_group (omega arith) (λ z. omega arith)
+    group_row (inr e) = let n = kind_is K.Edt e in value_group (omega arith) (λ z. omega arith)
+
+    pub text_row : k ≡ K.String → value_at w p ≡ text_value (codes (text_at w p))
+    text_row e = value_text (kind_is K.String e)
 
   -- ---- the line
   pub leaf_line : (d : ℕ) → LeafAt w p → row_text d w p ≡ line d (leaf_columns (leaf_at w p))
@@ -191,10 +224,3 @@ module _ (w : List ℕ) (p : ℕ) where
       let cs = codes (text_at w p) in
       let v = value_text k in
       rw (v, k, text_columns_lem cs) (ap (λ z. decimal d ++ z) (sym (append_assoc (kind_word 9) (text_value cs) (newline ∷ []))))
-
-  pub row_length : (d : ℕ) → length (row_text d w p) ≡ length (decimal d) + length (kind_word (kind_at w p)) + length (value_at w p) + 1
-  unfolding row_text
-  row_length d =
-      let v = value_at w p ++ (newline ∷ []) in
-      let k = kind_word (kind_at w p) in
-      omega (arith, length-append (decimal d) (k ++ v), length-append k v, length-append (value_at w p) (newline ∷ []))

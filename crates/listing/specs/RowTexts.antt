@@ -5,6 +5,7 @@ use Rattle.format.specs.Bits.{bit}
 use Rattle.format.specs.Tables.{codes}
 use Rattle.format.specs.Items.{Leaf, int, bits, char, bool, empty, xtra}
 use Rattle.table.specs.Rows.{kind_at, a_at, leaf_at, LeafAt, text_at, TextAt}
+use Rattle.listing.specs.declared.rows.Row.{Row}
 use Rattle.listing.specs.Lines.{decimal, signed_decimal, bits_column, text_value, space, newline}
 
 -- "INT", "BITS", "CHAR", "BOOL", "EMPTY", "XTRA", "STRUC", "STRING", "EDT" by kind, between spaces; none behind "EMPTY"
@@ -51,5 +52,9 @@ row_text d w p = decimal d ++ (kind_word (kind_at w p) ++ (value_at w p ++ (newl
 -- a row that is in order
 pub record RowInOrder (w : List ℕ) (p : ℕ) : Type 0 where
   pub within : 3 * p + 7 ≤ length w
+  pub known : (0 < kind_at w p) × (kind_at w p ≤ 9)
   pub leaf : kind_at w p < 7 → LeafAt w p
   pub text : kind_at w p ≡ 9 → TextAt w p
+
+abbrev pub InOrder : Row → Type 0
+InOrder r = RowInOrder r.table.now r.p

@@ -1,33 +1,77 @@
-// The line of one row of a table, in parts. Each function answers the place behind what it wrote.
-ghost use Rattle.std.specs.Prelude.{◌+◌, ◌-◌, ◌*◌, ◌/◌, ◌%◌, ◌^◌, ◌<◌, ◌≤◌, ◌≡◌, length};
+// The line of one row of a table, in parts.
+ghost use Rattle.std.specs.Prelude.{◌+◌, ◌-◌, ◌*◌, ◌/◌, ◌%◌, ◌^◌, ◌<◌, ◌≡◌, length, get_or};
+ghost use Rattle.format.specs.Kinds.{word_of};
 ghost use Rattle.format.specs.Tables.{codes};
-ghost use Rattle.table.specs.Rows.{kind_at, leaf_at, LeafAt, text_at, TextAt};
+ghost use Rattle.table.specs.Rows.{kind_at, a_at, b_at, rows_of, leaf_at, text_at};
 ghost use Rattle.listing.specs.Lines.{bit_text, codes_column, text_value};
-ghost use Rattle.listing.specs.Puts.{Wrote};
-ghost use Rattle.listing.specs.RowTexts.{kind_word, leaf_bits, leaf_value, value_at, row_text, RowInOrder};
+ghost use Rattle.listing.specs.Puts.{Fits, Put};
+ghost use Rattle.listing.specs.RowTexts.{kind_word, leaf_bits, leaf_value, value_at, row_text, InOrder};
 
-use crate::digits::{put_decimal, put_signed, put_text};
-use format::kinds::{BITS, BOOL, CHAR, EMPTY, INT, STRING, STRUC, XTRA};
+use crate::output::Output;
+use format::kinds::Kind;
+use table::rows::row_at;
 
-fn put_word(kind: u64, out: &mut [u8], at: usize) -> usize
-    requires { at + length (kind_word kind) ≤ length out.old }
-    ensures { Wrote at (kind_word kind) out.old result out.new }
+// A row of a table, by its number.
+// InOrder is no ghost field: it holds numbers (the `before` of LeafAt and TextAt), and antt takes only a fact with at most one proof.
+#[derive(Clone, Copy)]
+pub struct Row<'a> {
+    pub table: &'a [u64],
+    pub p: usize,
+}
+
+impl Row<'_> {
+    pub fn kind(&self) -> Kind
+        requires { InOrder self.now }
+        ensures { word_of result ≡ kind_at self.now.table.now self.now.p }
+    {
+        Kind::try_from(row_at(self.table, self.p).kind).unwrap()
+    }
+
+    pub fn a(&self) -> u64
+        requires { InOrder self.now }
+        ensures { result ≡ a_at self.now.table.now self.now.p }
+    {
+        row_at(self.table, self.p).a
+    }
+
+    pub fn b(&self) -> u64
+        requires { InOrder self.now }
+        ensures { result ≡ b_at self.now.table.now self.now.p }
+    {
+        row_at(self.table, self.p).b
+    }
+
+    // The data word `i` of a BITS or a string.
+    fn word(&self, i: usize) -> u64
+        requires in_order { InOrder self.now }
+        requires i_in { 3 * rows_of self.now.table.now + 4 + b_at self.now.table.now self.now.p + i < length self.now.table.now }
+        ensures { result ≡ get_or self.now.table.now (3 * rows_of self.now.table.now + 4 + b_at self.now.table.now self.now.p + i) 0 }
+    {
+        let first = 3 * (self.table[0] as usize) + 4 + (self.b() as usize);
+        self.table[first + i]
+    }
+}
+
+// A kind between spaces; none behind EMPTY.
+#[tactic(auto, unfolding(crate::specs::RowTexts::kind_word, format::specs::Choice::if_eq, format::specs::Choice::pick))]
+fn kind_text(kind: Kind) -> &'static [u8]
+    ensures { result.now ≡ kind_word (word_of kind) }
 {
     match kind {
-        INT => put_text(out, at, b" INT "),
-        BITS => put_text(out, at, b" BITS "),
-        CHAR => put_text(out, at, b" CHAR "),
-        BOOL => put_text(out, at, b" BOOL "),
-        EMPTY => put_text(out, at, b" EMPTY"),
-        XTRA => put_text(out, at, b" XTRA "),
-        STRUC => put_text(out, at, b" STRUC "),
-        STRING => put_text(out, at, b" STRING "),
-        _ => put_text(out, at, b" EDT "),
+        Kind::Int => b" INT ",
+        Kind::Bits => b" BITS ",
+        Kind::Char => b" CHAR ",
+        Kind::Bool => b" BOOL ",
+        Kind::Empty => b" EMPTY",
+        Kind::Xtra => b" XTRA ",
+        Kind::Struc => b" STRUC ",
+        Kind::Edt => b" EDT ",
+        Kind::String => b" STRING ",
     }
 }
 
 // Bit `j` of a word, the high bit being the first.
-fn bit_of(word: u64, j: u64) -> u64
+fn bit_of(word: u64, j: usize) -> u64
     requires { j < 64 }
     ensures { result ≡ word / 2 ^ (63 - j) % 2 }
 {
@@ -35,39 +79,32 @@ fn bit_of(word: u64, j: u64) -> u64
 }
 
 // The bits of a BITS, the high bit of each data word first.
-fn put_stream(table: &[u64], p: usize, out: &mut [u8], at: usize) -> usize
-    requires leaf_at { LeafAt table.now p × (kind_at table.now p ≡ 2) }
-    requires p_in_bounds { at + length (bit_text (leaf_bits (leaf_at table.now p))) ≤ length out.old }
-    ensures { Wrote at (bit_text (leaf_bits (leaf_at table.now p))) out.old result out.new }
+fn put_stream(row: &Row, out: &mut Output)
+    requires bits { InOrder row.now × (kind_at row.now.table.now row.now.p ≡ 2) }
+    requires room { Fits (bit_text (leaf_bits (leaf_at row.now.table.now row.now.p))) out.old }
+    ensures { Put (bit_text (leaf_bits (leaf_at row.now.table.now row.now.p))) out.old out.new }
 {
-    let bits = table[3 * p + 5] as usize;
-    let first = 3 * (table[0] as usize) + 4 + (table[3 * p + 6] as usize);
-    let mut i: usize = 0;
-    while i < bits {
-        let word = table[first + i / 64];
-        out[at + i] = (0x30 + bit_of(word, (i % 64) as u64)) as u8;
-        i += 1;
+    for i in 0..row.a() as usize {
+        out.byte(b'0' + bit_of(row.word(i / 64), i % 64) as u8);
     }
-    at + i
 }
 
 // The number of bits, and if there are any, the bits.
-fn put_bits(table: &[u64], p: usize, out: &mut [u8], at: usize) -> usize
-    requires leaf_at { LeafAt table.now p × (kind_at table.now p ≡ 2) }
-    requires p_in_bounds { at + length (leaf_value (leaf_at table.now p)) ≤ length out.old }
-    ensures { Wrote at (leaf_value (leaf_at table.now p)) out.old result out.new }
+fn put_bits(row: &Row, out: &mut Output)
+    requires bits { InOrder row.now × (kind_at row.now.table.now row.now.p ≡ 2) }
+    requires room { Fits (leaf_value (leaf_at row.now.table.now row.now.p)) out.old }
+    ensures { Put (leaf_value (leaf_at row.now.table.now row.now.p)) out.old out.new }
 {
-    let bits = table[3 * p + 5];
-    let n = put_decimal(out, at, bits);
-    if bits == 0 {
-        return n;
+    let bits = row.a();
+    out.decimal(bits);
+    if bits > 0 {
+        out.byte(b' ');
+        put_stream(row, out);
     }
-    out[n] = 0x20;
-    put_stream(table, p, out, n + 1)
 }
 
 // The code `j` of a word, the high byte being the first.
-fn code_of(word: u64, j: u64) -> u64
+fn code_of(word: u64, j: usize) -> u64
     requires { j < 8 }
     ensures { result ≡ word / 2 ^ (56 - 8 * j) % 256 }
 {
@@ -75,68 +112,51 @@ fn code_of(word: u64, j: u64) -> u64
 }
 
 // The codes of a string, each behind a space.
-fn put_codes(table: &[u64], p: usize, out: &mut [u8], at: usize) -> usize
-    requires text_at { TextAt table.now p }
-    requires p_in_bounds { at + length (codes_column (codes (text_at table.now p))) ≤ length out.old }
-    ensures { Wrote at (codes_column (codes (text_at table.now p))) out.old result out.new }
+fn put_codes(row: &Row, out: &mut Output)
+    requires string { InOrder row.now × (kind_at row.now.table.now row.now.p ≡ 9) }
+    requires room { Fits (codes_column (codes (text_at row.now.table.now row.now.p))) out.old }
+    ensures { Put (codes_column (codes (text_at row.now.table.now row.now.p))) out.old out.new }
 {
-    let count = table[3 * p + 5] as usize;
-    let first = 3 * (table[0] as usize) + 4 + (table[3 * p + 6] as usize);
-    let mut n = at;
-    let mut i: usize = 0;
-    while i < count {
-        let word = table[first + i / 8];
-        out[n] = 0x20;
-        n = put_decimal(out, n + 1, code_of(word, (i % 8) as u64));
-        i += 1;
+    for i in 0..row.a() as usize {
+        out.byte(b' ');
+        out.decimal(code_of(row.word(i / 8), i % 8));
     }
-    n
 }
 
 // The number of characters, and their codes.
-fn put_string(table: &[u64], p: usize, out: &mut [u8], at: usize) -> usize
-    requires text_at { TextAt table.now p }
-    requires p_in_bounds { at + length (text_value (codes (text_at table.now p))) ≤ length out.old }
-    ensures { Wrote at (text_value (codes (text_at table.now p))) out.old result out.new }
+fn put_string(row: &Row, out: &mut Output)
+    requires string { InOrder row.now × (kind_at row.now.table.now row.now.p ≡ 9) }
+    requires room { Fits (text_value (codes (text_at row.now.table.now row.now.p))) out.old }
+    ensures { Put (text_value (codes (text_at row.now.table.now row.now.p))) out.old out.new }
 {
-    let n = put_decimal(out, at, table[3 * p + 5]);
-    put_codes(table, p, out, n)
+    out.decimal(row.a());
+    put_codes(row, out);
 }
 
 // What stands behind the kind: nothing for an EMPTY, the number of elements for a STRUC or an EDT.
-fn put_value(table: &[u64], p: usize, out: &mut [u8], at: usize) -> usize
-    requires row_in_order { RowInOrder table.now p }
-    requires p_in_bounds { at + length (value_at table.now p) ≤ length out.old }
-    ensures { Wrote at (value_at table.now p) out.old result out.new }
+fn put_value(row: &Row, kind: Kind, out: &mut Output)
+    requires in_order { InOrder row.now × (word_of kind ≡ kind_at row.now.table.now row.now.p) }
+    requires room { Fits (value_at row.now.table.now row.now.p) out.old }
+    ensures { Put (value_at row.now.table.now row.now.p) out.old out.new }
 {
-    let kind = table[3 * p + 4];
-    if kind >= STRUC {
-        if kind == STRING {
-            return put_string(table, p, out, at);
-        }
-        return put_decimal(out, at, table[3 * p + 5]);
+    match kind {
+        Kind::Int => out.signed(row.b()),
+        Kind::Bits => put_bits(row, out),
+        Kind::Char | Kind::Bool | Kind::Xtra => out.decimal(row.b()),
+        Kind::Empty => {}
+        Kind::Struc | Kind::Edt => out.decimal(row.a()),
+        Kind::String => put_string(row, out),
     }
-    let b = table[3 * p + 6];
-    if kind == INT {
-        return put_signed(out, at, b);
-    }
-    if kind == BITS {
-        return put_bits(table, p, out, at);
-    }
-    if kind == EMPTY {
-        return at;
-    }
-    put_decimal(out, at, b)
 }
 
-pub fn put_row(table: &[u64], p: usize, depth: usize, out: &mut [u8], at: usize) -> usize
-    requires row_in_order { RowInOrder table.now p }
-    requires p_in_bounds { at + length (row_text depth table.now p) ≤ length out.old }
-    ensures { Wrote at (row_text depth table.now p) out.old result out.new }
+pub fn put_row(row: &Row, depth: usize, out: &mut Output)
+    requires in_order { InOrder row.now }
+    requires room { Fits (row_text depth row.now.table.now row.now.p) out.old }
+    ensures { Put (row_text depth row.now.table.now row.now.p) out.old out.new }
 {
-    let n = put_decimal(out, at, depth as u64);
-    let n = put_word(table[3 * p + 4], out, n);
-    let n = put_value(table, p, out, n);
-    out[n] = 0x0a;
-    n + 1
+    let kind = row.kind();
+    out.decimal(depth as u64);
+    out.text(kind_text(kind));
+    put_value(row, kind, out);
+    out.byte(b'\n');
 }

@@ -1,42 +1,29 @@
 // The lines of a run of rows. Each row is visited once.
-ghost use Rattle.std.specs.Prelude.{◌+◌, ◌≤◌, length};
+ghost use Rattle.std.specs.Prelude.{◌+◌, ◌≤◌};
 ghost use Rattle.format.specs.Normal.{depth};
+ghost use Rattle.format.specs.Refusals.{depth_limit};
 ghost use Rattle.table.specs.Rows.{Run, items_at};
 ghost use Rattle.listing.specs.Lines.{lines};
-ghost use Rattle.listing.specs.Puts.{Wrote};
-ghost use Rattle.format.specs.Refusals.{depth_limit};
+ghost use Rattle.listing.specs.Puts.{Fits, Put};
 
-use crate::rows::put_row;
-use format::kinds::{STRING, STRUC};
+use crate::output::Output;
+use crate::rows::{Row, put_row};
+use table::rows::next_row;
 
 // The rows from `from` up to `to`, which stand inside `level` containers; the elements of a container stand one level deeper.
-pub fn put_run(
-    table: &[u64],
-    from: usize,
-    to: usize,
-    level: usize,
-    out: &mut [u8],
-    at: usize,
-) -> usize
+pub fn put_run(table: &[u64], from: usize, to: usize, level: usize, out: &mut Output)
     requires run { Run table.now from to × (level + depth (items_at table.now from to) ≤ depth_limit) }
-    requires to_in_bounds { at + length (lines level (items_at table.now from to)) ≤ length out.old }
-    ensures { Wrote at (lines level (items_at table.now from to)) out.old result out.new }
+    requires room { Fits (lines level (items_at table.now from to)) out.old }
+    ensures { Put (lines level (items_at table.now from to)) out.old out.new }
 {
+    // A `while`, since each step is as long as the item's rows.
     let mut p = from;
-    let mut n = at;
     while p < to {
-        n = put_row(table, p, level, out, n);
-        if table[3 * p + 4] < STRUC {
-            p += 1;
-            continue;
+        put_row(&Row { table, p }, level, out);
+        let next = next_row(table, p);
+        if p + 1 < next {
+            put_run(table, p + 1, next, level + 1, out);
         }
-        if table[3 * p + 4] == STRING {
-            p += 1;
-            continue;
-        }
-        let next = p + 1 + (table[3 * p + 6] as usize);
-        n = put_run(table, p + 1, next, level + 1, out, n);
         p = next;
     }
-    n
 }

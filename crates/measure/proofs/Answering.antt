@@ -1,5 +1,5 @@
 -- What is answered for a sheet, by the tests that the code makes. Assumes nothing.
-use Prim.Native.Nat.{ℕ, ◌*◌, ◌^◌, ◌≤◌}
+use Prim.Native.Nat.{ℕ, ◌*◌, ◌^◌, ◌≤◌, ◌<◌}
 use mathlib.Core.Path.{◌≡◌, refl, sym, ap, ◌∙◌}
 use mathlib.Core.Bool.{Bool, true, false}
 use mathlib.Core.Option.{none, some}
@@ -87,14 +87,17 @@ fairs w e =
     let b = pick_both (fair (b_at w 6)) (fair (b_at w 7)) a.1 in
     record { chest = a.0; waist = b.0; sleeve = b.1 }
 
--- the unit of a sheet is told by its code
-unit_told : (w : List ℕ) → is_sheet w ≡ true → scale_code (scale_at (b_at w 4)) ≡ b_at w 4
+pub unit_below : (w : List ℕ) → is_sheet w ≡ true → b_at w 4 < 2
 unfolding is_sheet are_elements is_unit
-unit_told w t =
+unit_below w t =
     let e = (pick_both (is_one_edt w) (are_elements w) t).1 in
     let v = (pick_both (is_int w 2 1) _ (pick_both (is_type w) _ e).1).1 in
     let u = (pick_both (is_unit w) _ (eq_both (kind_at w 3) 1 _ v).1).0 in
-    scale_word (b_at w 4) (true_lt (b_at w 4) 2 (eq_both (kind_at w 4) 6 _ u).1)
+    true_lt (b_at w 4) 2 (eq_both (kind_at w 4) 6 _ u).1
+
+-- the unit of a sheet is told by its code
+unit_told : (w : List ℕ) → is_sheet w ≡ true → scale_code (scale_at (b_at w 4)) ≡ b_at w 4
+unit_told w t = scale_word (b_at w 4) (unit_below w t)
 
 -- the products do not overflow
 abbrev pub Small : ℕ → ℕ → ℕ → ℕ → Type 0
@@ -140,10 +143,3 @@ module _ (w : List ℕ) (r : Reading) (e : is_sheet w ≡ true) (a : any_empty (
   pub in_range_told : all_fair (b_at w 5) (b_at w 6) (b_at w 7) ≡ true → measured (sheet_at w) r ≡ measured_as (sheet_in w) r
   unfolding measured_as
   in_range_told f = sym (is_sheet_lem w r e ∙ pick_no (any_empty (sheet_at w)) _ _ a ∙ pick_yes (all_in_range (sheet_at w)) _ _ (range_rows w a ∙ f))
-
--- the test of the three numbers that the rows have came out so
-abbrev pub FairRows : List ℕ → Bool → Type 0
-FairRows w b = b ≡ all_fair (b_at w 5) (b_at w 6) (b_at w 7)
-
-pub fair_rows : (w : List ℕ) (c v l : ℕ) (b : Bool) → c ≡ b_at w 5 → v ≡ b_at w 6 → l ≡ b_at w 7 → b ≡ all_fair c v l → FairRows w b
-fair_rows w c v l b p q r e = e ∙ rw (p, q, r) refl

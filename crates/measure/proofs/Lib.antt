@@ -5,6 +5,7 @@ pub mod MeasuredExactly
 pub mod SheetWritten
 pub mod Examples
 -- The code: the tests that it makes, the table's rows as a sheet, and what is answered.
+pub mod UnitLaws
 pub mod RowTests
 pub mod TableSheets
 pub mod Answering

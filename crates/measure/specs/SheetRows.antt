@@ -1,12 +1,13 @@
 -- What the contracts of the inner functions cite: the words of a table as the rows of a sheet, which are the EDT's in row 0 and then
 -- those of its seven elements. A type by name has its characters in word 28.
-use Rattle.std.specs.Prelude.{ℕ, ◌≤◌, ◌≡◌, Bool, true, false, List, length, get_or, eqb, ltb}
+use Rattle.std.specs.Prelude.{ℕ, ◌≤◌, ◌≡◌, Bool, true, false, List, [], ◌∷◌, length, get_or, eqb, ltb}
 use Rattle.std.proofs.Math.Option.{Option, none, some}
 use Rattle.format.specs.Choice.{pick, if_eq}
 use Rattle.format.specs.Numbers.{signed}
 use Rattle.format.specs.Items.{Items}
 use Rattle.format.specs.Tables.{items_of}
 use Rattle.format.specs.Answers.{Reading}
+use Rattle.table.specs.declared.rows.Row.{Row}
 use Rattle.table.specs.Rows.{kind_at, a_at, b_at, rows_of}
 use Rattle.measure.specs.Sheets.{Scale, tenths, eighths, Figure, figure, ask, Sheet, fair, any_empty}
 
@@ -34,6 +35,13 @@ is_unit w = if_eq (kind_at w 4) 6 (ltb (b_at w 4) 2) false
 unfoldable pub is_figure : ℕ → Bool
 unfolding if_eq
 is_figure k = if_eq k 1 true (eqb k 5)
+
+-- the rows of the three figures
+abbrev pub row_of : List ℕ → ℕ → Row
+row_of w p = record { kind = kind_at w p; a = a_at w p; b = b_at w p }
+
+abbrev pub figure_rows : List ℕ → List Row
+figure_rows w = row_of w 5 ∷ row_of w 6 ∷ row_of w 7 ∷ []
 
 unfoldable pub are_figures : List ℕ → Bool
 unfolding pick is_figure

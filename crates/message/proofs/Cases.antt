@@ -7,8 +7,7 @@ use mathlib.Core.Option.{Option, none, some}
 use mathlib.Core.List.{List, ◌++◌}
 use native.Mathlib.Omega.{arith}
 use lib.ListN.{length, drop, take-append-drop}
-use Rattle.format.specs.declared.fault.Fault.{Fault}
-use Rattle.format.specs.Refusals.{byte_limit, row_limit, word_limit, depth_limit}
+use Rattle.format.specs.Refusals.{Fault, byte_limit, row_limit, word_limit, depth_limit}
 use Rattle.format.specs.Items.{Items}
 use Rattle.format.specs.Messages.{Outcome, refused, says, outcome}
 use Rattle.format.specs.Tables.{rows, data_words, table_of, words_needed, items_of}

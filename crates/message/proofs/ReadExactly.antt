@@ -6,8 +6,7 @@ use mathlib.Core.Logic.{◌≢◌, ◌⊎◌, inl, inr, ⊎_elim, ◌↔◌}
 use mathlib.Core.List.{List}
 use native.Mathlib.Omega.{arith}
 use lib.ListN.{length}
-use Rattle.format.specs.declared.fault.Fault.{Fault}
-use Rattle.format.specs.Refusals.{byte_limit}
+use Rattle.format.specs.Refusals.{Fault, byte_limit}
 use Rattle.format.specs.Items.{Items}
 use Rattle.format.specs.Messages.{refused, outcome}
 use Rattle.format.specs.Tables.{rows, data_words, words_needed}

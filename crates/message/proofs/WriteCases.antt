@@ -6,14 +6,6 @@ use mathlib.Core.List.{List}
 use Rattle.format.specs.Answers as A
 use Rattle.format.proofs.Choices.{if_eq_yes, if_eq_no}
 
--- an answer is told by its parts
-pub written_parts : (a : A.Writing) (n l : ℕ) (o : List ℕ) → n ≡ a.number → l ≡ a.length → o ≡ a.output → record { number = n; length = l; output = o } ≡ a
-written_parts a n l o en el eo =
-    ap (λ x. made x l o) en ∙ ap (λ x. made a.number x o) el ∙ ap (λ x. made a.number a.length x) eo
-  where
-    made : ℕ → ℕ → List ℕ → A.Writing
-    made n l o = record { number = n; length = l; output = o }
-
 -- a refused reading ends normalising
 pub normalise_refused : (m t o : List ℕ) (r : A.Reading) → r ≡ A.reading m t → r.number ≢ 0 → A.only_read r o ≡ A.normalising m t o
 unfolding A.normalising A.then_written

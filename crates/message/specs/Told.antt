@@ -1,6 +1,9 @@
 -- The answers as the code gives them, beside what is lent.
 use Rattle.std.specs.Prelude.{ℕ, List}
-use Rattle.format.specs.declared.fault.Fault.{Fault}
+use Rattle.format.specs.Refusals.{Fault, output_short}
+use Rattle.format.specs.Refused.{number_of}
+use Rattle.writer.specs.declared.Unwritten.{Unwritten}
+use Rattle.writer.specs.declared.Unwritten.TheVariants.{Refused, Short}
 use Rattle.format.specs.Answers as A
 use Rattle.message.specs.declared.Reading.{Reading}
 use Rattle.message.specs.declared.Writing.{Writing}
@@ -20,6 +23,11 @@ read_told r t = record { number = r.number; place = r.place; words = r.words; mi
 -- writing's answer, and the output after it
 abbrev pub write_told : Writing → List ℕ → A.Writing
 write_told r o = record { number = r.number; length = r.length; output = o }
+
+-- where nothing is written
+abbrev pub unwritten_answer : Unwritten → Writing
+unwritten_answer (Refused r) = record { number = number_of r; length = 0 }
+unwritten_answer (Short n) = record { number = output_short; length = n }
 
 -- normalising's answer, and the table and the output after it
 abbrev pub normalise_told : Normalising → List ℕ → List ℕ → A.Normalising

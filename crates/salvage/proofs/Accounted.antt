@@ -11,11 +11,11 @@ use Rattle.format.specs.Refusals.{byte_limit}
 use Rattle.format.specs.Answers.{reading}
 use Rattle.format.proofs.Choices.{split_eq}
 use Rattle.salvage.specs.Mending.{own_extent, lying, met_alone, mended, Change, change, changes_in}
-use Rattle.salvage.specs.Words.{Ample, IsRest, Accounts, done, copied, replaced, dropped, Listed, bytes_at, TrueOf, InTurn}
+use Rattle.salvage.specs.Words.{Ample, Accounts, done, copied, replaced, dropped, Listed, bytes_at, TrueOf, InTurn}
 use Rattle.salvage.proofs.PartLaws.{lies_within, by_parts, mended_none, mended_rest, mended_kept, mended_bad}
 use Rattle.salvage.proofs.PartLaws.{changes_at, changes_none, changes_rest, changes_kept, changes_bad, changes_whole}
 use Rattle.salvage.proofs.OwnExtents.{lying_alone}
-use Rattle.salvage.proofs.Sound.{sound_mended, sound_changes, sound_no_changes, bad_mended, bad_changes}
+use Rattle.salvage.proofs.Sound.{sound_mended, sound_changes, bad_mended, bad_changes, rest_bad}
 use Rattle.salvage.proofs.Ample.{met_ample}
 
 -- ---- each byte once
@@ -84,13 +84,6 @@ pub changes_rising : (m : List ℕ) → InTurn 0 (length m) (changes_in m)
 changes_rising m = in_turn (length m) 0 m (mended m) (changes_in m) (all_accounted m) (omega arith)
 
 -- ---- what each change tells
--- a rest is never accepted
-rest_bad : (b : ℕ) (s : List ℕ) → IsRest b s → met_alone (b ∷ s) ≢ 0
-rest_bad b s e z =
-    let q = sym (changes_rest 0 b s e) ∙ sound_no_changes 0 (b ∷ s) z in
-    let n : ◌≡◌ {A = ℕ} 0 1 = cc in
-    omega arith
-
 -- of the bytes o, which stand behind a and before m
 true_of : (p : ℕ) (a o m : List ℕ) → length a ≡ p → met_alone o ≢ 0 → TrueOf (a ++ (o ++ m)) (change p o)
 true_of p a o m e n =

@@ -2,7 +2,7 @@
 use Prim.Native.Nat.{ℕ, ◌/◌, ◌≤◌, ◌<◌}
 use native.Mathlib.Omega.{arith}
 use mathlib.Core.Path.{◌≡◌, sym, ap, ap₂, ◌∙◌}
-use mathlib.Core.Logic.{◌≢◌}
+use mathlib.Core.Logic.{◌≢◌, ◌⊎◌, inl, inr}
 use mathlib.Core.List.{List}
 use lib.ListN.{length}
 use Rattle.format.specs.Refusals.{too_many, byte_limit, row_limit, word_limit}
@@ -10,10 +10,9 @@ use Rattle.format.specs.Items.{Items}
 use Rattle.format.specs.Messages.{says}
 use Rattle.format.specs.Tables.{rows, data_words}
 use Rattle.format.specs.Answers.{over}
-use Rattle.format.proofs.Choices.{if_lt_yes, if_lt_no, if_eq_yes, if_eq_no}
+use Rattle.format.proofs.Choices.{if_lt_yes, if_lt_no, if_eq_yes, if_eq_no, split}
 use Rattle.salvage.specs.Mending.{met_by, met_alone, mended, changes_in, change_words, salvaging}
 use Rattle.salvage.specs.declared.walk.Measure.{Measure}
-use Rattle.salvage.specs.declared.Salvaging.{Salvaging}
 use Rattle.salvage.specs.Words.{HasRoom}
 use Rattle.salvage.specs.Told.{measure_of, answer_of, salvage_told}
 use Rattle.salvage.proofs.MendedLaws.{mended_says}
@@ -97,17 +96,16 @@ module _ (m o t : List ℕ) (short : length m ≤ byte_limit) (x : Measure) (q :
           sym (if_lt_no byte_limit (length m) _ _ short ∙ if_lt_no (length o) (length (mended m)) _ _ (omega (arith, length_is))
           ∙ if_lt_no (length t / 3) (length (changes_in m)) _ _ (omega (arith, entries_are)) ∙ if_eq_yes (met_alone (mended m)) too_many _ _ e)
 
-      pub answer_rows : row_limit < x.rows → salvage_told (answer_of 10 0 0) o t ≡ salvaging m o t
-      answer_rows h = ten (over_rows m (omega (arith, rows_are)))
+      pub answer_many : (row_limit < x.rows) ⊎ (word_limit < x.words) → salvage_told (answer_of 10 0 0) o t ≡ salvaging m o t
+      answer_many (inl h) = ten (over_rows m (omega (arith, rows_are)))
+      answer_many (inr h) =
+          split row_limit x.rows (λ l. ten (over_rows m (omega (arith, rows_are)))) (λ l. ten (over_words m (omega (arith, rows_are)) (omega (arith, words_are))))
 
-      pub answer_words : x.rows ≤ row_limit → word_limit < x.words → salvage_told (answer_of 10 0 0) o t ≡ salvaging m o t
-      answer_words h k = ten (over_words m (omega (arith, rows_are)) (omega (arith, words_are)))
-
-      pub answer_done : x.rows ≤ row_limit → x.words ≤ word_limit → (r : Salvaging) → r ≡ answer_of 0 x.length x.entries
-          → (y z : List ℕ) → y ≡ over (mended m) o → z ≡ over (change_words (changes_in m)) t → salvage_told r y z ≡ salvaging m o t
+      pub answer_done : (x.rows ≤ row_limit) × (x.words ≤ word_limit)
+          → (y z : List ℕ) → y ≡ over (mended m) o → z ≡ over (change_words (changes_in m)) t → salvage_told (answer_of 0 x.length x.entries) y z ≡ salvaging m o t
       unfolding salvaging
-      answer_done h k r g y z e f =
-          ap (λ i. salvage_told i y z) (g ∙ ap₂ (answer_of 0) length_is entries_are) ∙ ap₂ (λ i j. salvage_told (answer_of 0 (length (mended m)) (length (changes_in m))) i j) e f
+      answer_done h y z e f =
+          ap (λ i. salvage_told i y z) (ap₂ (answer_of 0) length_is entries_are) ∙ ap₂ (λ i j. salvage_told (answer_of 0 (length (mended m)) (length (changes_in m))) i j) e f
           ∙ sym (if_lt_no byte_limit (length m) _ _ short ∙ if_lt_no (length o) (length (mended m)) _ _ (omega (arith, length_is))
           ∙ if_lt_no (length t / 3) (length (changes_in m)) _ _ (omega (arith, entries_are))
-          ∙ if_eq_no (met_alone (mended m)) too_many _ _ (within_both m (omega (arith, rows_are)) (omega (arith, words_are))))
+          ∙ if_eq_no (met_alone (mended m)) too_many _ _ (within_both m (omega (arith, h.0, rows_are)) (omega (arith, h.1, words_are))))

@@ -4,7 +4,7 @@ use native.Mathlib.Omega.{arith}
 use mathlib.Core.Path.{◌≡◌, refl, sym, ap, ◌∙◌}
 use mathlib.Core.List.{List, [], ◌∷◌, ◌++◌}
 use lib.ListN.{length, take, get_or, set}
-use lib.Seq.{take_all, take-suc, length-take-le}
+use lib.Seq.{take-suc, length-take-le}
 use Rattle.format.specs.Lent.{over_at}
 use Rattle.format.proofs.Over.{at_none, at_length, set_next}
 
@@ -28,6 +28,3 @@ copied_step at bytes o₀ o i v h l c q =
     let k : set o (at + i) v ≡ over_at at (take (i + 1) bytes) o₀ =
     ap (λ j. set o (at + j) v) (sym t) ∙ set_next at v (take i bytes) o₀ o c.output_is (omega arith) ∙ ap (λ y. over_at at y o₀) e in
     record { upto = omega arith; long = ap length k ∙ at_length at (take (i + 1) bytes) o₀ (omega arith); output_is = k }
-
-pub copied_end : (at : ℕ) (bytes o₀ o : List ℕ) (i : ℕ) → length bytes ≤ i → Copied at bytes o₀ o i → o ≡ over_at at bytes o₀
-copied_end at bytes o₀ o i h c = c.output_is ∙ ap (λ y. over_at at y o₀) (take_all i bytes h)

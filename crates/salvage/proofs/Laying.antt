@@ -2,21 +2,20 @@
 use Prim.Native.Nat.{ℕ, ◌+◌, ◌-◌, ◌*◌, ◌≤◌, ◌<◌}
 use native.Mathlib.Omega.{arith}
 use mathlib.Core.Path.{◌≡◌, refl, sym, ap, ap₂, ◌∙◌}
-use mathlib.Core.Logic.{◌≢◌}
 use mathlib.Core.List.{List, [], ◌∷◌, ◌++◌, append_assoc, append-nil}
-use lib.ListN.{length, take, drop, set, length-append, length-take, length-drop}
+use lib.ListN.{length, take, drop, set, length-append, length-take, length-drop, drop_of_length-le}
 use lib.Seq.{drop-drop, length-take-le}
 use Rattle.format.specs.Answers.{over}
 use Rattle.format.specs.Lent.{over_at}
 use Rattle.format.proofs.Parts.{rest_part, middle_part}
 use Rattle.format.proofs.Over.{over_none, over_self, over_front, over_over, at_front, over_length, over_next, set_at}
 use Rattle.salvage.specs.Mending.{mended, Change, change, changes_in, change_words}
-use Rattle.salvage.specs.declared.parts.Part.{Part}
+use Rattle.salvage.specs.declared.parts.Amount.{Amount}
 use Rattle.salvage.specs.Words.{HasRoom}
-use Rattle.salvage.specs.Told.{PartsFrom, Clean}
-use Rattle.salvage.proofs.PartLaws.{changes_at, changes_whole}
-use Rattle.salvage.proofs.MendedLaws.{no_changes_same, mended_shorter, changes_fewer}
-use Rattle.salvage.proofs.PartCases.{lost, kept, replaced}
+use Rattle.salvage.specs.Told.{SoundFront, BadFront, BadRest, Clean}
+use Rattle.salvage.proofs.PartLaws.{mended_none, changes_at, changes_none}
+use Rattle.salvage.proofs.MendedLaws.{no_changes_same, changes_fewer}
+use Rattle.salvage.proofs.PartCases.{Lost, lost, kept, replaced}
 
 -- ---- the words of changes
 words_append : (a b : List Change) → change_words (a ++ b) ≡ change_words a ++ change_words b
@@ -32,13 +31,6 @@ words_length (c ∷ a) = omega (arith, words_length a)
 one_change : (a : List Change) (c : Change) → change_words (a ++ (c ∷ [])) ≡ change_words a ++ (c.place ∷ c.bytes ∷ c.number ∷ [])
 unfolding change_words
 one_change a c = words_append a (c ∷ [])
-
--- where there is room for all, both come back as long as they were lent
-pub out_long : (m o₀ t₀ y : List ℕ) → HasRoom m (length o₀) (length t₀) → y ≡ over (mended m) o₀ → length y ≡ length o₀
-out_long m o₀ t₀ y room e = ap length e ∙ over_length (mended m) o₀ room.room
-
-pub list_long : (m o₀ t₀ y : List ℕ) → HasRoom m (length o₀) (length t₀) → y ≡ over (change_words (changes_in m)) t₀ → length y ≡ length t₀
-list_long m o₀ t₀ y room e = ap length e ∙ over_length (change_words (changes_in m)) t₀ (omega (arith, words_length (changes_in m), room.places))
 
 -- ---- the bytes before p of the input m are done: `at` bytes came out of them, and k changes are told
 pub record Laid (m o₀ t₀ o t : List ℕ) (p at k : ℕ) : Type 0 where
@@ -76,13 +68,6 @@ module _ (m o₀ t₀ o t : List ℕ) (p at k : ℕ) (s : Laid m o₀ t₀ o t p
         ap length s.list_is ∙ over_length (change_words s.told) t₀ (omega (arith, room.places, words_length s.told)),
       )
 
-  -- both counts are small
-  pub few : (at ≤ length m) × (k ≤ length m)
-  few = (
-    omega (arith, s.done_length, ap length s.out, length-append s.done (mended (drop p m)), mended_shorter m),
-    omega (arith, s.told_length, ap length s.listed, length-append s.told (changes_at p (drop p m)), ap length (changes_whole m), changes_fewer 0 m),
-  )
-
   -- there is room for all that is still to come
   out_room : at + length (mended (drop p m)) ≤ length o
   out_room = omega (arith, room.room, s.done_length, ap length s.out, length-append s.done (mended (drop p m)), same_long.0)
@@ -104,83 +89,88 @@ module _ (m o₀ t₀ o t : List ℕ) (p at k : ℕ) (s : Laid m o₀ t₀ o t p
       e ∙ over_next (change_words s.told) (c.place ∷ c.bytes ∷ c.number ∷ []) t₀ t (3 * k) s.list_is w ∙ ap (λ l. over l t₀) (sym (one_change s.told c))
 
 -- ---- one part more
-module _ (m o₀ t₀ o t : List ℕ) (p at k : ℕ) (s : Laid m o₀ t₀ o t p at k) (room : HasRoom m (length o₀) (length t₀)) (h : p < length m) (x : Part) (q : PartsFrom (drop p m) x) where
-  some_bytes : 0 < length (drop p m)
-  some_bytes = omega (arith, length-drop p m)
-
+module _ (m o₀ t₀ o t : List ℕ) (p at k : ℕ) (s : Laid m o₀ t₀ o t p at k) (room : HasRoom m (length o₀) (length t₀)) where
   -- the rest: it is listed, and nothing comes out of it
-  pub lost_room : x.bytes ≡ 0 → 3 * k + 3 ≤ length t
-  lost_room z = let c = lost (drop p m) p x some_bytes q z in omega (arith, list_room m o₀ t₀ o t p at k s room, ap length c.listed)
+  module _ (h : p < length m) (e : ℕ) (f : BadRest (drop p m) e) where
+    gone : Lost (drop p m) p e
+    gone = lost (drop p m) p e (omega (arith, length-drop p m)) f
 
-  pub lost_out : x.bytes ≡ 0 → o ≡ over (mended m) o₀
-  lost_out z =
-      let c = lost (drop p m) p x some_bytes q z in
-      s.output_is ∙ ap (λ l. over l o₀) (sym (s.out ∙ ap (λ l. s.done ++ l) c.out ∙ append-nil s.done))
+    pub laid_dropped : (y : List ℕ) → y ≡ over_at (3 * k) (p ∷ (length m - p) ∷ e ∷ []) t → Laid m o₀ t₀ o y (length m) at (k + 1)
+    laid_dropped y i =
+        let c = gone in
+        let z : drop (length m) m ≡ [] = drop_of_length-le m {i = length m} (omega arith) in
+        let w : p ∷ (length m - p) ∷ e ∷ [] ≡ p ∷ length (drop p m) ∷ (change p (drop p m)).number ∷ [] =
+        ap₂ (λ i j. p ∷ i ∷ j ∷ []) (sym (length-drop p m)) c.number in
+        record {
+          done = s.done;
+          told = s.told ++ (change p (drop p m) ∷ []);
+          upto = omega arith;
+          out = s.out ∙ ap (λ l. s.done ++ l) (c.out ∙ sym (ap mended z ∙ mended_none));
+          listed = s.listed ∙ ap (λ l. s.told ++ l) c.listed ∙ sym (append-nil (s.told ++ (change p (drop p m) ∷ [])))
+              ∙ ap (λ l. (s.told ++ (change p (drop p m) ∷ [])) ++ l) (sym (ap (changes_at (length m)) z ∙ changes_none (length m)));
+          done_length = s.done_length;
+          told_length = omega (arith, length-append s.told (change p (drop p m) ∷ []), s.told_length);
+          output_is = s.output_is;
+          list_is = listed_next m o₀ t₀ o t p at k s room (change p (drop p m)) y (i ∙ ap (λ l. over_at (3 * k) l t) w);
+        }
 
-  pub lost_list : x.bytes ≡ 0 → (y : List ℕ) → y ≡ over_at (3 * k) (p ∷ (length m - p) ∷ x.number ∷ []) t → y ≡ over (change_words (changes_in m)) t₀
-  lost_list z y e =
-      let c = lost (drop p m) p x some_bytes q z in
-      let w : p ∷ (length m - p) ∷ x.number ∷ [] ≡ p ∷ length (drop p m) ∷ (change p (drop p m)).number ∷ [] =
-      ap₂ (λ i j. p ∷ i ∷ j ∷ []) (sym (length-drop p m)) c.number in
-      listed_next m o₀ t₀ o t p at k s room (change p (drop p m)) y (e ∙ ap (λ l. over_at (3 * k) l t) w)
-      ∙ ap (λ l. over (change_words l) t₀) (sym (s.listed ∙ ap (λ l. s.told ++ l) c.listed))
+  module _ (n : ℕ) where
+    onward : drop n (drop p m) ≡ drop (p + n) m
+    onward = drop-drop n p m
 
-  onward : drop x.bytes (drop p m) ≡ drop (p + x.bytes) m
-  onward = drop-drop x.bytes p m
+    -- bytes that are kept: they stand behind the others
+    module _ (a : Amount) (f : SoundFront (drop p m) n a) where
+      kept_room : at + n ≤ length o
+      kept_room =
+          let c = kept (drop p m) p n a f in
+          let l = ap length c.out ∙ length-append (take n (drop p m)) (mended (drop n (drop p m))) in
+          omega (arith, out_room m o₀ t₀ o t p at k s room, l, length-take-le n (drop p m) c.fits)
 
-  -- an object that is kept: its bytes stand behind the others
-  kept_room : x.bytes ≢ 0 → x.number ≡ 0 → at + x.bytes ≤ length o
-  kept_room z n =
-      let c = kept (drop p m) p x some_bytes q z n in
-      let l = ap length c.out ∙ length-append (take x.bytes (drop p m)) (mended (drop x.bytes (drop p m))) in
-      omega (arith, out_room m o₀ t₀ o t p at k s room, l, length-take-le x.bytes (drop p m) c.has.fits)
+      pub kept_copy : at + length (take (p + n - p) (drop p m)) ≤ length o
+      kept_copy = rw (middle_part m p n) (omega (arith, kept_room, length-take n (drop p m)))
 
-  pub kept_copy : x.bytes ≢ 0 → x.number ≡ 0 → at + length (take (p + x.bytes - p) (drop p m)) ≤ length o
-  kept_copy z n = rw (middle_part m p x.bytes) (omega (arith, kept_room z n, length-take x.bytes (drop p m)))
+      pub laid_kept : (y : List ℕ) → y ≡ over_at at (take (p + n - p) (drop p m)) o → Laid m o₀ t₀ y t (p + n) (at + n) k
+      laid_kept y e =
+          let c = kept (drop p m) p n a f in
+          let b : List ℕ = take n (drop p m) in
+          let l : length b ≡ n = length-take-le n (drop p m) c.fits in
+          record {
+            done = s.done ++ b;
+            told = s.told;
+            upto = omega (arith, s.upto, c.fits, length-drop p m);
+            out = s.out ∙ ap (λ l. s.done ++ l) (c.out ∙ ap (λ l. b ++ mended l) onward) ∙ sym (append_assoc s.done b (mended (drop (p + n) m)));
+            listed = s.listed ∙ ap (λ l. s.told ++ l) (c.listed ∙ ap (changes_at (p + n)) onward);
+            done_length = omega (arith, length-append s.done b, s.done_length);
+            told_length = s.told_length;
+            output_is = e ∙ ap (λ l. over_at at l o) (middle_part m p n) ∙ over_next s.done b o₀ o at s.output_is (sym s.done_length);
+            list_is = s.list_is;
+          }
 
-  pub laid_kept : x.bytes ≢ 0 → x.number ≡ 0 → (y : List ℕ) → y ≡ over_at at (take (p + x.bytes - p) (drop p m)) o
-      → Laid m o₀ t₀ y t (p + x.bytes) (at + x.bytes) k
-  laid_kept z n y e =
-      let c = kept (drop p m) p x some_bytes q z n in
-      let b : List ℕ = take x.bytes (drop p m) in
-      let l : length b ≡ x.bytes = length-take-le x.bytes (drop p m) c.has.fits in
-      record {
-        done = s.done ++ b;
-        told = s.told;
-        upto = omega (arith, c.has.fits, length-drop p m);
-        out = s.out ∙ ap (λ l. s.done ++ l) (c.out ∙ ap (λ l. b ++ mended l) onward) ∙ sym (append_assoc s.done b (mended (drop (p + x.bytes) m)));
-        listed = s.listed ∙ ap (λ l. s.told ++ l) (c.listed ∙ ap (changes_at (p + x.bytes)) onward);
-        done_length = omega (arith, length-append s.done b, s.done_length);
-        told_length = s.told_length;
-        output_is = e ∙ ap (λ l. over_at at l o) (middle_part m p x.bytes) ∙ over_next s.done b o₀ o at s.output_is (sym s.done_length);
-        list_is = s.list_is;
-      }
+    -- an object that is replaced: an EMPTY stands there, and it is listed
+    module _ (e : ℕ) (f : BadFront (drop p m) n e) where
+      pub replaced_room : (at < length o) × (3 * k + 3 ≤ length t)
+      replaced_room =
+          let c = replaced (drop p m) p n e f in
+          (omega (arith, out_room m o₀ t₀ o t p at k s room, ap length c.out), omega (arith, list_room m o₀ t₀ o t p at k s room, ap length c.listed))
 
-  -- one that is replaced: an EMPTY stands there, and it is listed
-  pub replaced_room : x.bytes ≢ 0 → x.number ≢ 0 → (at < length o) × (3 * k + 3 ≤ length t)
-  replaced_room z n =
-      let c = replaced (drop p m) p x some_bytes q z n in
-      (omega (arith, out_room m o₀ t₀ o t p at k s room, ap length c.out), omega (arith, list_room m o₀ t₀ o t p at k s room, ap length c.listed))
-
-  pub laid_replaced : x.bytes ≢ 0 → x.number ≢ 0 → (y : List ℕ) → y ≡ over_at (3 * k) (p ∷ x.bytes ∷ x.number ∷ []) t
-      → Laid m o₀ t₀ (set o at 0xfe) y (p + x.bytes) (at + 1) (k + 1)
-  laid_replaced z n y e =
-      let c = replaced (drop p m) p x some_bytes q z n in
-      let b : List ℕ = take x.bytes (drop p m) in
-      let l : length b ≡ x.bytes = length-take-le x.bytes (drop p m) c.has.fits in
-      let w : p ∷ x.bytes ∷ x.number ∷ [] ≡ p ∷ length b ∷ (change p b).number ∷ [] = ap₂ (λ i j. p ∷ i ∷ j ∷ []) (sym l) c.number in
-      record {
-        done = s.done ++ (0xfe ∷ []);
-        told = s.told ++ (change p b ∷ []);
-        upto = omega (arith, c.has.fits, length-drop p m);
-        out = s.out ∙ ap (λ l. s.done ++ l) (c.out ∙ ap (λ l. 0xfe ∷ mended l) onward) ∙ sym (append_assoc s.done (0xfe ∷ []) (mended (drop (p + x.bytes) m)));
-        listed = s.listed ∙ ap (λ l. s.told ++ l) (c.listed ∙ ap (λ l. change p b ∷ changes_at (p + x.bytes) l) onward)
-            ∙ sym (append_assoc s.told (change p b ∷ []) (changes_at (p + x.bytes) (drop (p + x.bytes) m)));
-        done_length = omega (arith, length-append s.done (0xfe ∷ []), s.done_length);
-        told_length = omega (arith, length-append s.told (change p b ∷ []), s.told_length);
-        output_is = set_at at 0xfe o (replaced_room z n).0 ∙ over_next s.done (0xfe ∷ []) o₀ o at s.output_is (sym s.done_length);
-        list_is = listed_next m o₀ t₀ o t p at k s room (change p b) y (e ∙ ap (λ l. over_at (3 * k) l t) w);
-      }
+      pub laid_replaced : (y : List ℕ) → y ≡ over_at (3 * k) (p ∷ n ∷ e ∷ []) t → Laid m o₀ t₀ (set o at 0xfe) y (p + n) (at + 1) (k + 1)
+      laid_replaced y i =
+          let c = replaced (drop p m) p n e f in
+          let b : List ℕ = take n (drop p m) in
+          let l : length b ≡ n = length-take-le n (drop p m) c.fits in
+          let w : p ∷ n ∷ e ∷ [] ≡ p ∷ length b ∷ (change p b).number ∷ [] = ap₂ (λ i j. p ∷ i ∷ j ∷ []) (sym l) c.number in
+          record {
+            done = s.done ++ (0xfe ∷ []);
+            told = s.told ++ (change p b ∷ []);
+            upto = omega (arith, s.upto, c.fits, length-drop p m);
+            out = s.out ∙ ap (λ l. s.done ++ l) (c.out ∙ ap (λ l. 0xfe ∷ mended l) onward) ∙ sym (append_assoc s.done (0xfe ∷ []) (mended (drop (p + n) m)));
+            listed = s.listed ∙ ap (λ l. s.told ++ l) (c.listed ∙ ap (λ l. change p b ∷ changes_at (p + n) l) onward)
+                ∙ sym (append_assoc s.told (change p b ∷ []) (changes_at (p + n) (drop (p + n) m)));
+            done_length = omega (arith, length-append s.done (0xfe ∷ []), s.done_length);
+            told_length = omega (arith, length-append s.told (change p b ∷ []), s.told_length);
+            output_is = set_at at 0xfe o replaced_room.0 ∙ over_next s.done (0xfe ∷ []) o₀ o at s.output_is (sym s.done_length);
+            list_is = listed_next m o₀ t₀ o t p at k s room (change p b) y (i ∙ ap (λ l. over_at (3 * k) l t) w);
+          }
 
 -- ---- all changes are told: what is left comes out as it is
 none_left : (m o₀ t₀ o t : List ℕ) (p at k : ℕ) → Laid m o₀ t₀ o t p at k → length (changes_in m) ≤ k → changes_at p (drop p m) ≡ []
@@ -211,14 +201,11 @@ module _ (m o₀ t₀ o t : List ℕ) (p at k : ℕ) (s : Laid m o₀ t₀ o t p
 
 -- ---- what stands before the first change, and then the rest
 module _ (m : List ℕ) (q : ℕ) (c : Clean m q) where
-  pub front_length : q ≡ length (take q m)
+  front_length : q ≡ length (take q m)
   front_length = sym (length-take-le q m c.upto)
 
   out_longer : length (take q m) ≤ length (mended m)
   out_longer = omega (arith, ap length c.out, length-append (take q m) (mended (drop q m)))
-
-  pub front_fits : (n k : ℕ) → HasRoom m n k → 0 + length (take q m) ≤ n
-  front_fits n k r = omega (arith, out_longer, r.room)
 
   module _ (o₀ o : List ℕ) (e : o ≡ over_at 0 (take q m) o₀) where
     front_is : o ≡ over (take q m) o₀
@@ -226,11 +213,6 @@ module _ (m : List ℕ) (q : ℕ) (c : Clean m q) where
 
     pub front_there : take q o ≡ take q m
     front_there = ap (take q) front_is ∙ over_front (take q m) o₀ q front_length
-
-    pub front_room : (k : ℕ) → HasRoom m (length o₀) k → HasRoom m (length o) k
-    front_room k r =
-        let l : length o ≡ length o₀ = ap length front_is ∙ over_length (take q m) o₀ (omega (arith, r.room, out_longer)) in
-        record { short = r.short; room = omega (arith, r.room); places = r.places }
 
     pub front_out : (y : List ℕ) → y ≡ over (mended m) o → y ≡ over (mended m) o₀
     front_out y i = i ∙ ap (over (mended m)) front_is ∙ over_over (take q m) (mended m) o₀ out_longer

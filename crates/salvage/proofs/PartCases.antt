@@ -2,9 +2,10 @@
 -- to then. Assumes nothing.
 use Prim.Native.Nat.{ℕ, suc, ◌+◌, ◌≤◌, ◌<◌}
 use native.Mathlib.Omega.{arith}
-use mathlib.Core.Path.{◌≡◌, refl, sym, ap, ◌∙◌, subst}
-use mathlib.Core.Logic.{◌≢◌, inl, inr}
-use mathlib.Core.Option.{none, some}
+use mathlib.Core.Path.{◌≡◌, sym, ap, ◌∙◌, subst}
+use mathlib.Core.Logic.{◌≢◌}
+use mathlib.Core.Option.{Option, none, some}
+use Rattle.std.specs.Prelude.{Some, None, Ok, Err}
 use mathlib.Core.List.{List, [], ◌∷◌, ◌++◌}
 use lib.ListN.{length, take, drop, length-drop, take-append-drop}
 use lib.Seq.{length-take-le}
@@ -14,39 +15,59 @@ use Rattle.format.specs.Tables.{rows, data_words}
 use Rattle.format.proofs.Counts.{rows_join, words_join}
 use Rattle.format.proofs.Growing.{says_joined}
 use Rattle.salvage.specs.Mending.{own_extent, lying, met_alone, mended, change}
-use Rattle.salvage.specs.declared.parts.Verdict.{Verdict}
-use Rattle.salvage.specs.declared.parts.Part.{Part}
+use Rattle.salvage.specs.declared.parts.Amount.{Amount}
 use Rattle.salvage.specs.Words.{said}
-use Rattle.salvage.specs.Told.{met_of, part_told, part_by, part_from, SoundFront, PartsFrom}
-use Rattle.salvage.proofs.PartLaws.{lies_within, by_part, mended_rest, mended_kept, mended_bad, changes_at, changes_rest, changes_kept, changes_bad}
+use Rattle.salvage.specs.Told.{bytes_told, met_of, object_in, SoundFront, BadFront, BadRest}
+use Rattle.salvage.proofs.PartLaws.{lies_within, by_part, mended_rest, mended_bad, changes_at, changes_rest, changes_bad}
 use Rattle.salvage.proofs.MendedLaws.{met_says, empty_says, mended_says}
 use Rattle.salvage.proofs.Sound.{sound_mended, sound_changes}
-use Rattle.salvage.proofs.Verdicts.{verdict_number, verdict_rows_are, said_is}
+use Rattle.salvage.proofs.Verdicts.{verdict_number, verdict_met, verdict_amount, few_sound, said_is}
 
 -- ---- what is told of it
-pub told_rest : (b : ℕ) (s : List ℕ) → lying s (own_extent b s) ≡ none → part_from (b ∷ s) ≡ part_told 0 (met_of (outcome (b ∷ s)))
-unfolding part_from part_by
-told_rest b s e = ap (part_by b s) e
-
-pub told_whole : (b : ℕ) (s : List ℕ) (u : ℕ) → lying s (own_extent b s) ≡ some u
-    → part_from (b ∷ s) ≡ part_told (suc u) (met_of (outcome (b ∷ take u s)))
-unfolding part_from part_by
-told_whole b s u e = ap (part_by b s) e
-
-number_of : (n : ℕ) (o : List ℕ) (r : Part) → r ≡ part_told n (met_of (outcome o)) → r.number ≡ met_alone o
+-- its number
+number_of : (o : List ℕ) (k : ℕ) → met_of (outcome o) ≡ Err k → met_alone o ≡ k
 unfolding met_alone
-number_of n o r e = ap (λ (x : Part). x.number) e ∙ verdict_number (outcome o)
+number_of o k e = verdict_number (outcome o) k e
+
+pub sound_met : (o : List ℕ) (a : Amount) → met_of (outcome o) ≡ Ok a → met_alone o ≡ 0
+unfolding met_alone
+sound_met o a e = verdict_met (outcome o) a e
+
+bad_met : (o : List ℕ) (k : ℕ) → met_of (outcome o) ≡ Err k → met_alone o ≢ 0
+bad_met o k e z =
+    let x = met_says o z in
+    let q : met_of (says x.0) ≡ Err k = ap met_of (sym x.1) ∙ e in
+    absurd (few_sound x.0 k x.2 x.3 q)
+
+-- n bytes, of an object that stands at the front
+told_none : (x : Option ℕ) (n : ℕ) → bytes_told x ≡ Some n → x ≡ none → ⊥
+unfolding bytes_told
+told_none x n q e = let i : bytes_told none ≡ Some n = ap bytes_told (sym e) ∙ q in cc
+
+told_some : (x : Option ℕ) (n u : ℕ) → bytes_told x ≡ Some n → x ≡ some u → n ≡ suc u
+unfolding bytes_told
+told_some x n u q e = let i : bytes_told (some u) ≡ Some n = ap bytes_told (sym e) ∙ q in cc
+
+pub by_object : (b : ℕ) (s : List ℕ) (n : ℕ) {X : Type 0} → object_in (b ∷ s) ≡ Some n → ((u : ℕ) → n ≡ suc u → lying s (own_extent b s) ≡ some u → X) → X
+unfolding object_in
+by_object b s n q f = by_part b s (λ e. absurd (told_none _ n q e)) (λ u e. f u (told_some _ n u q e) e)
+
+told_past : (x : Option ℕ) (u : ℕ) → bytes_told x ≡ None → x ≡ some u → ⊥
+unfolding bytes_told
+told_past x u q e = let i : bytes_told (some u) ≡ None = ap bytes_told (sym e) ∙ q in cc
+
+pub by_rest : (b : ℕ) (s : List ℕ) → object_in (b ∷ s) ≡ None → lying s (own_extent b s) ≡ none
+unfolding object_in
+by_rest b s q = by_part b s (λ e. e) (λ u e. absurd (told_past _ u q e))
 
 -- it lies within the bytes
-one_upto : (l : List ℕ) (r : Part) → 0 < length l → r ≡ part_from l → r.bytes ≤ length l
-one_upto [] r z e = absurd (omega arith)
-one_upto (b ∷ s) r z e =
-    by_part b s (λ i. omega (arith, ap (λ (x : Part). x.bytes) (e ∙ told_rest b s i)))
-    (λ u i. omega (arith, ap (λ (x : Part). x.bytes) (e ∙ told_whole b s u i), lies_within s _ u i))
+pub bad_fits : (l : List ℕ) (n : ℕ) → object_in l ≡ Some n → n ≤ length l
+unfolding object_in
+bad_fits [] n q = absurd (cc)
+bad_fits (b ∷ s) n q = by_object b s n q (λ u i e. omega (arith, lies_within s _ u e))
 
-pub part_upto : (m : List ℕ) (p : ℕ) (r : Part) → p < length m → PartsFrom (drop p m) r → p + r.bytes ≤ length m
-part_upto m p r h (inl q) = omega (arith, one_upto (drop p m) r (omega (arith, length-drop p m)) q, length-drop p m)
-part_upto m p r h (inr f) = omega (arith, f.fits, length-drop p m)
+pub bad_upto : (m : List ℕ) (p n k : ℕ) → BadFront (drop p m) n k → p ≤ length m → p + n ≤ length m
+bad_upto m p n k f h = omega (arith, bad_fits (drop p m) n f.object, length-drop p m)
 
 -- ---- the rows and data words of messages end to end
 abbrev pub rows_in : List ℕ → ℕ
@@ -63,124 +84,85 @@ joined_rows a m xs e =
     said_is (a ++ mended m) (join xs y.0) (says_joined a (mended m) xs y.0 e y.1) ∙ ap (join xs) (sym (said_is (mended m) y.0 y.1)) in
     (ap rows k ∙ rows_join xs (said (mended m)), ap (λ z. length (data_words z)) k ∙ words_join xs (said (mended m)))
 
--- ---- the bytes l stand at p, and r is told of the part that they begin with
+-- ---- the bytes l stand at p
 -- they are dropped
-pub record Lost (l : List ℕ) (p : ℕ) (r : Part) : Type 0 where
+pub record Lost (l : List ℕ) (p k : ℕ) : Type 0 where
   pub out : mended l ≡ []
   pub listed : changes_at p l ≡ change p l ∷ []
-  pub number : r.number ≡ met_alone l
+  pub number : k ≡ met_alone l
 
-pub lost : (l : List ℕ) (p : ℕ) (r : Part) → 0 < length l → PartsFrom l r → r.bytes ≡ 0 → Lost l p r
-lost l p r h (inr f) z = absurd (omega (arith, f.some_bytes))
-lost [] p r h (inl q) z = absurd (omega arith)
-lost (b ∷ s) p r h (inl q) z =
-    by_part b s (λ e. record { out = mended_rest b s e; listed = changes_rest p b s e; number = number_of 0 (b ∷ s) r (q ∙ told_rest b s e) })
-    (λ u e. let i : r.bytes ≡ suc u = ap (λ (x : Part). x.bytes) (q ∙ told_whole b s u e) in absurd (omega arith))
+pub lost : (l : List ℕ) (p k : ℕ) → 0 < length l → BadRest l k → Lost l p k
+lost [] p k h f = absurd (omega arith)
+lost (b ∷ s) p k h f =
+    let e = by_rest b s f.object in
+    record { out = mended_rest b s e; listed = changes_rest p b s e; number = sym (number_of (b ∷ s) k f.bad) }
 
--- an object has some of them
-pub record Has (l : List ℕ) (r : Part) : Type 0 where
-  pub fits : r.bytes ≤ length l
-  pub some_bytes : 0 < r.bytes
+-- n of them are kept
+pub record Kept (l : List ℕ) (p n : ℕ) (a : Amount) : Type 0 where
+  pub fits : n ≤ length l
+  pub some_bytes : 0 < n
+  pub out : mended l ≡ take n l ++ mended (drop n l)
+  pub listed : changes_at p l ≡ changes_at (p + n) (drop n l)
+  pub rows_are : rows_in (mended l) ≡ a.rows + rows_in (mended (drop n l))
+  pub words_are : words_in (mended l) ≡ a.words + words_in (mended (drop n l))
+  pub few_rows : a.rows ≤ 16384
+  pub few_words : a.words ≤ 16384
 
--- and is kept
-pub record Kept (l : List ℕ) (p : ℕ) (r : Part) : Type 0 where
-  pub has : Has l r
-  pub out : mended l ≡ take r.bytes l ++ mended (drop r.bytes l)
-  pub listed : changes_at p l ≡ changes_at (p + r.bytes) (drop r.bytes l)
-  pub rows_are : rows_in (mended l) ≡ r.rows + rows_in (mended (drop r.bytes l))
-  pub words_are : words_in (mended l) ≡ r.words + words_in (mended (drop r.bytes l))
-  pub few_rows : r.rows ≤ 16384
-  pub few_words : r.words ≤ 16384
-
-kept_by : (b : ℕ) (s : List ℕ) (u p : ℕ) → lying s (own_extent b s) ≡ some u → (met_of (outcome (b ∷ take u s))).number ≡ 0
-    → Kept (b ∷ s) p (part_told (suc u) (met_of (outcome (b ∷ take u s))))
-unfolding met_alone
-kept_by b s u p e z =
-    let o : List ℕ = b ∷ take u s in
-    let n : met_alone o ≡ 0 = sym (verdict_number (outcome o)) ∙ z in
-    let x = met_says o n in
-    let v = verdict_rows_are (outcome o) x.0 x.1 z in
-    let j = joined_rows o (drop u s) x.0 x.1 in
-    let k = mended_kept b s u e n in
-    let r : (met_of (outcome o)).rows ≡ rows x.0 = ap (λ y. y.rows) v in
-    let w : (met_of (outcome o)).words ≡ length (data_words x.0) = ap (λ y. y.words) v in
+pub kept : (l : List ℕ) (p n : ℕ) (a : Amount) → SoundFront l n a → Kept l p n a
+kept l p n a f =
+    let o : List ℕ = take n l in
+    let e : List ℕ = drop n l in
+    let z : met_alone o ≡ 0 = sound_met o a f.sound in
+    let t : length o ≡ n = length-take-le n l f.fits in
+    let w : l ≡ o ++ e = sym (take-append-drop n l) in
+    let x = met_says o z in
+    let v = verdict_amount (outcome o) x.0 a x.1 f.sound in
+    let k : mended l ≡ o ++ mended e = ap mended w ∙ sound_mended o e z in
+    let j = joined_rows o e x.0 x.1 in
     record {
-      has = record { fits = omega (arith, lies_within s _ u e); some_bytes = omega arith };
+      fits = f.fits;
+      some_bytes = f.some_bytes;
       out = k;
-      listed = changes_kept p b s u e n;
-      rows_are = ap rows_in k ∙ j.0 ∙ ap (λ y. y + rows_in (mended (drop u s))) (sym r);
-      words_are = ap words_in k ∙ j.1 ∙ ap (λ y. y + words_in (mended (drop u s))) (sym w);
-      few_rows = omega (arith, x.2);
-      few_words = omega (arith, x.3);
+      listed = ap (changes_at p) w ∙ sound_changes p o e z ∙ ap (λ y. changes_at (p + y) e) t;
+      rows_are = ap rows_in k ∙ j.0 ∙ ap (λ y. y + rows_in (mended e)) (sym v.0);
+      words_are = ap words_in k ∙ j.1 ∙ ap (λ y. y + words_in (mended e)) (sym v.1);
+      few_rows = omega (arith, x.2, v.0);
+      few_words = omega (arith, x.3, v.1);
     }
 
-one_kept : (l : List ℕ) (p : ℕ) (r : Part) → 0 < length l → r ≡ part_from l → r.bytes ≢ 0 → r.number ≡ 0 → Kept l p r
-one_kept [] p r h q z y = absurd (omega arith)
-one_kept (b ∷ s) p r h q z y =
-    by_part b s (λ e. let i : r.bytes ≡ 0 = ap (λ (x : Part). x.bytes) (q ∙ told_rest b s e) in absurd (z i))
-    (λ u e.
-    let i = q ∙ told_whole b s u e in
-    subst (Kept (b ∷ s) p) (sym i) (kept_by b s u p e (ap (λ (x : Part). x.number) (sym i) ∙ y)))
+-- an object of n of them is replaced
+pub record Replaced (l : List ℕ) (p n k : ℕ) : Type 0 where
+  pub fits : n ≤ length l
+  pub some_bytes : 0 < n
+  pub out : mended l ≡ 0xfe ∷ mended (drop n l)
+  pub listed : changes_at p l ≡ change p (take n l) ∷ changes_at (p + n) (drop n l)
+  pub number : k ≡ met_alone (take n l)
+  pub rows_are : rows_in (mended l) ≡ 1 + rows_in (mended (drop n l))
+  pub words_are : words_in (mended l) ≡ words_in (mended (drop n l))
 
--- several that are sound together
-front_kept : (l : List ℕ) (p : ℕ) (r : Part) → SoundFront l r → Kept l p r
-unfolding met_alone
-front_kept l p r f =
-    let a : List ℕ = take r.bytes l in
-    let e : List ℕ = drop r.bytes l in
-    let z : (met_of (outcome a)).number ≡ 0 = ap (λ (x : Verdict). x.number) f.sound in
-    let n : met_alone a ≡ 0 = sym (verdict_number (outcome a)) ∙ z in
-    let t : length a ≡ r.bytes = length-take-le r.bytes l f.fits in
-    let w : l ≡ a ++ e = sym (take-append-drop r.bytes l) in
-    let x = met_says a n in
-    let v = sym f.sound ∙ verdict_rows_are (outcome a) x.0 x.1 z in
-    let k : mended l ≡ a ++ mended e = ap mended w ∙ sound_mended a e n in
-    let j = joined_rows a e x.0 x.1 in
-    let i : r.rows ≡ rows x.0 = ap (λ (y : Verdict). y.rows) v in
-    let d : r.words ≡ length (data_words x.0) = ap (λ (y : Verdict). y.words) v in
-    record {
-      has = record { fits = f.fits; some_bytes = f.some_bytes };
-      out = k;
-      listed = ap (changes_at p) w ∙ sound_changes p a e n ∙ ap (λ y. changes_at (p + y) e) t;
-      rows_are = ap rows_in k ∙ j.0 ∙ ap (λ y. y + rows_in (mended e)) (sym i);
-      words_are = ap words_in k ∙ j.1 ∙ ap (λ y. y + words_in (mended e)) (sym d);
-      few_rows = omega (arith, x.2);
-      few_words = omega (arith, x.3);
-    }
-
-pub kept : (l : List ℕ) (p : ℕ) (r : Part) → 0 < length l → PartsFrom l r → r.bytes ≢ 0 → r.number ≡ 0 → Kept l p r
-kept l p r h (inl q) z y = one_kept l p r h q z y
-kept l p r h (inr f) z y = front_kept l p r f
-
--- or is replaced
-pub record Replaced (l : List ℕ) (p : ℕ) (r : Part) : Type 0 where
-  pub has : Has l r
-  pub out : mended l ≡ 0xfe ∷ mended (drop r.bytes l)
-  pub listed : changes_at p l ≡ change p (take r.bytes l) ∷ changes_at (p + r.bytes) (drop r.bytes l)
-  pub number : r.number ≡ met_alone (take r.bytes l)
-  pub rows_are : rows_in (mended l) ≡ 1 + rows_in (mended (drop r.bytes l))
-  pub words_are : words_in (mended l) ≡ words_in (mended (drop r.bytes l))
-
-replaced_by : (b : ℕ) (s : List ℕ) (u p : ℕ) → lying s (own_extent b s) ≡ some u → met_alone (b ∷ take u s) ≢ 0
-    → Replaced (b ∷ s) p (part_told (suc u) (met_of (outcome (b ∷ take u s))))
+replaced_by : (b : ℕ) (s : List ℕ) (u p k : ℕ) → lying s (own_extent b s) ≡ some u → met_of (outcome (b ∷ take u s)) ≡ Err k
+    → Replaced (b ∷ s) p (suc u) k
 unfolding rows data_words
-replaced_by b s u p e n =
+replaced_by b s u p k e w =
+    let n : met_alone (b ∷ take u s) ≢ 0 = bad_met (b ∷ take u s) k w in
     let j = joined_rows (0xfe ∷ []) (drop u s) (one empty) empty_says in
-    let k = mended_bad b s u e n in
+    let i = mended_bad b s u e n in
     record {
-      has = record { fits = omega (arith, lies_within s _ u e); some_bytes = omega arith };
-      out = k;
+      fits = omega (arith, lies_within s _ u e);
+      some_bytes = omega arith;
+      out = i;
       listed = changes_bad p b s u e n;
-      number = number_of (suc u) (b ∷ take u s) _ refl;
-      rows_are = ap rows_in k ∙ j.0;
-      words_are = omega (arith, ap words_in k, j.1);
+      number = sym (number_of (b ∷ take u s) k w);
+      rows_are = ap rows_in i ∙ j.0;
+      words_are = omega (arith, ap words_in i, j.1);
     }
 
-pub replaced : (l : List ℕ) (p : ℕ) (r : Part) → 0 < length l → PartsFrom l r → r.bytes ≢ 0 → r.number ≢ 0 → Replaced l p r
-replaced l p r h (inr f) z y = absurd (y f.number_is)
-replaced [] p r h (inl q) z y = absurd (omega arith)
-replaced (b ∷ s) p r h (inl q) z y =
-    by_part b s (λ e. let i : r.bytes ≡ 0 = ap (λ (x : Part). x.bytes) (q ∙ told_rest b s e) in absurd (z i))
-    (λ u e.
-    let i = q ∙ told_whole b s u e in
-    subst (Replaced (b ∷ s) p) (sym i) (replaced_by b s u p e (λ g. y (number_of (suc u) (b ∷ take u s) r i ∙ g))))
+pub replaced : (l : List ℕ) (p n k : ℕ) → BadFront l n k → Replaced l p n k
+unfolding object_in
+replaced [] p n k f = let z = f.object in absurd (cc)
+replaced (b ∷ s) p n k f =
+    by_object b s n f.object (λ u i e.
+    subst (λ x. Replaced (b ∷ s) p x k) (sym i) (replaced_by b s u p k e (ap (λ x. met_of (outcome (take x (b ∷ s)))) (sym i) ∙ f.bad)))
+
+pub bad_some : (m : List ℕ) (p n k : ℕ) → BadFront (drop p m) n k → 0 < n
+bad_some m p n k f = (replaced (drop p m) p n k f).some_bytes

@@ -15,8 +15,8 @@ use Rattle.format.specs.Tables.{rows, data_words}
 use Rattle.format.proofs.Counts.{rows_join, words_join}
 use Rattle.format.proofs.Apart.{one_object, Objects, none, more, by_objects}
 use Rattle.salvage.specs.Mending.{met_alone, mended, change, changes_in}
-use Rattle.salvage.specs.Words.{IsOne}
-use Rattle.salvage.proofs.PartLaws.{mended_none, mended_kept, mended_bad, changes_at, changes_none, changes_kept, changes_bad, changes_whole}
+use Rattle.salvage.specs.Words.{IsOne, IsRest}
+use Rattle.salvage.proofs.PartLaws.{mended_none, mended_kept, mended_bad, changes_at, changes_none, changes_rest, changes_kept, changes_bad, changes_whole}
 use Rattle.salvage.proofs.MendedLaws.{met_says, says_met}
 use Rattle.salvage.proofs.OwnExtents.{lying_grown, got_lies}
 
@@ -84,3 +84,10 @@ module _ (b : ℕ) (s c : List ℕ) (one : IsOne b s) (bad : met_alone (b ∷ s)
   bad_changes p =
       changes_bad p b (s ++ c) (length s) (lying_grown b s c (length s) one) bad_alone
       ∙ ap₂ (λ x y. change p (b ∷ x) ∷ changes_at (p + length (b ∷ s)) y) (take_at s c (length s) refl) (drop_at s c (length s) refl)
+
+-- a rest is never accepted
+pub rest_bad : (b : ℕ) (s : List ℕ) → IsRest b s → met_alone (b ∷ s) ≢ 0
+rest_bad b s e z =
+    let q = sym (changes_rest 0 b s e) ∙ sound_no_changes 0 (b ∷ s) z in
+    let n : ◌≡◌ {A = ℕ} 0 1 = cc in
+    omega arith

@@ -3,30 +3,33 @@
 #![tactic(auto)]
 
 ghost use Rattle.std.specs.Prelude.{◌≡◌};
+ghost use Rattle.format.specs.Refused.{number_of};
 ghost use Rattle.salvage.specs.Mending.{salvaging};
 ghost use Rattle.salvage.specs.Told.{answer_of, salvage_told};
 
 use crate::walk::{measured, mend};
-use format::fault::{LIST_SHORT, OUTPUT_SHORT, TOO_LONG, TOO_MANY};
-use format::limits::{MOST_BYTES, MOST_ROWS, MOST_WORDS};
+use format::fault::Refusal;
+use format::limits::{MOST_BYTES, too_many};
 
 mod parts;
 mod walk;
 
 // Salvaging's answer: 0 or the number of a refusal, the bytes written or needed, and the changes listed or needed.
+// Numbers and no Result: C is given this struct.
 #[repr(C)]
-#[derive(Clone, Copy)]
+#[derive(Clone, Copy, Debug, PartialEq, Eq)]
 pub struct Salvaging {
     pub number: usize,
     pub length: usize,
     pub entries: usize,
 }
 
-fn answered(number: usize, length: usize, entries: usize) -> Salvaging
-    ensures { result ≡ answer_of number length entries }
+// A refusal, with the bytes or the entries that are needed. Alike in shape to other operations', but each fills the struct that C is given.
+fn refused(why: Refusal, length: usize, entries: usize) -> Salvaging
+    ensures { result ≡ answer_of (number_of why) length entries }
 {
     Salvaging {
-        number,
+        number: why.number(),
         length,
         entries,
     }
@@ -38,21 +41,22 @@ pub fn salvage(message: &[u8], output: &mut [u8], list: &mut [u64]) -> Salvaging
     ensures { salvage_told result output.new list.new ≡ salvaging message.now output.old list.old }
 {
     if message.len() > MOST_BYTES {
-        return answered(TOO_LONG, 0, 0);
+        return refused(Refusal::TooLong, 0, 0);
     }
     let m = measured(message);
     if output.len() < m.length {
-        return answered(OUTPUT_SHORT, m.length, 0);
+        return refused(Refusal::OutputShort, m.length, 0);
     }
     if list.len() / 3 < m.entries {
-        return answered(LIST_SHORT, 0, m.entries);
+        return refused(Refusal::ListShort, 0, m.entries);
     }
-    if m.rows > MOST_ROWS {
-        return answered(TOO_MANY, 0, 0);
+    if too_many(m.rows, m.words) {
+        return refused(Refusal::TooMany, 0, 0);
     }
-    if m.words > MOST_WORDS {
-        return answered(TOO_MANY, 0, 0);
+    mend(message, output, list, m);
+    Salvaging {
+        number: 0,
+        length: m.length,
+        entries: m.entries,
     }
-    mend(message, output, list, m.entries, m.first);
-    answered(0, m.length, m.entries)
 }

@@ -1,8 +1,9 @@
-pub mod Told
 pub mod KindsMet
 pub mod Leads
 pub mod SumLaws
 pub mod Closings
+pub mod Told
+pub mod Moved
 pub mod Turns
 pub mod Stretches
 pub mod ObjectCases

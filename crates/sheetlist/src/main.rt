@@ -4,8 +4,6 @@
 
 mod input;
 
-use crate::input::Input;
-
 // Writes a message's listing to standard output.
 fn list_sheet(rt: &(impl Print + Eprint), sheet: &[u8]) {
     let mut table = [0u64; 8000];
@@ -18,10 +16,9 @@ fn list_sheet(rt: &(impl Print + Eprint), sheet: &[u8]) {
 
 fn main(rt: HostRuntime) {
     let mut sheet = [0u8; 32769];
-    let got = input::read_input(&mut rt.stdin(), &mut sheet);
-    match got {
-        Input::Whole(length) => list_sheet(&rt, &sheet[..length]),
-        Input::Failed => {
+    match input::read_input(&mut rt.stdin(), &mut sheet) {
+        Ok(length) => list_sheet(&rt, &sheet[..length]),
+        Err(_) => {
             let _ = eprintln!(rt;
                 "sheetlist: the sheet could not be read to its end; nothing is listed"
             );

@@ -8,7 +8,7 @@ use mathlib.Core.Bool.{Bool}
 use mathlib.Core.List.{List, [], ◌∷◌, ◌++◌}
 use lib.ListN.{length, take, drop, get_or, length-drop}
 use lib.Seq.{take-append-le, take-append-add, drop_at, drop-length}
-use lib.Pow.{pow_pos, pow-add}
+use lib.Pow.{pow_pos, pow-add, shl_exact}
 use Rattle.format.specs.Numbers.{be}
 use Rattle.format.specs.Bits.{bits_of, spread, adjusted, packed}
 use Rattle.format.proofs.BitLaws.{bit_is_one, bits_length_lem, zero_adjusted, adjusted_div, adjusted_mod, adjusted_bits}
@@ -85,3 +85,7 @@ packed_be (suc k) bs =
     let a : adjusted (8 * suc k) bs / 256 ^ k ≡ adjusted 8 bs = ap₂ (λ n m. adjusted n bs / m) (sym e) (sym (pow_bytes k)) ∙ adjusted_div 8 (8 * k) bs in
     let b : adjusted (8 * suc k) bs % 256 ^ k ≡ adjusted (8 * k) (drop 8 bs) = ap₂ (λ n m. adjusted n bs % m) (sym e) (sym (pow_bytes k)) ∙ adjusted_mod 8 (8 * k) bs in
     sym (ap₂ (λ x y. x ∷ be k y) a b ∙ ap (λ l. adjusted 8 bs ∷ l) (sym (packed_be k (drop 8 bs))))
+
+-- a power of 2 in a word
+pub power : (k : ℕ) → k < 64 → 1 * 2 ^ k % 2 ^ 64 ≡ 2 ^ k
+power k h = shl_exact {a = 1} 1 k 64 (omega arith) (omega arith) ∙ omega arith

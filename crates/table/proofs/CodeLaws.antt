@@ -1,7 +1,7 @@
 -- A string's codes: the words that hold them, the characters that have them, and that all of them are below 128. Assumes nothing.
 use mathlib.Core.Path.{◌≡◌, refl, sym, ◌∙◌, ap, ap₂}
 use mathlib.Core.List.{List, [], ◌∷◌, ◌++◌}
-use mathlib.Core.Bool.{Bool, true, false}
+use mathlib.Core.Bool.{Bool, true, false, ◌&&◌}
 use mathlib.Core.Logic.{◌≢◌}
 use Prim.Native.Nat.{ℕ, zero, suc, ◌+◌, ◌-◌, ◌*◌, ◌/◌, ◌%◌, ◌^◌, ◌<◌, ◌≤◌, min, max}
 use native.Mathlib.Omega.{arith}
@@ -16,11 +16,15 @@ use Rattle.format.specs.Numbers.{Bytes, val, be}
 use Rattle.format.specs.Bits.{bits_of, spread, packed, adjusted, words_for}
 use Rattle.format.specs.Items.{bits, Items, text, leaf_kind, all_of, kinds, is_string, proper_leaf, proper}
 use Rattle.format.specs.Tables.{in_words, leaf_b, leaf_words, codes, letters, text_words}
-use Rattle.format.proofs.Choices.{lt_true, true_lt, eq_false, both_left, both_right, both_true, both_yes, both_no}
+use Rattle.format.proofs.Choices.{lt_true, true_lt, eq_false, both_left, both_right, both_true, both_no}
 use Rattle.format.proofs.Digits.{be_length, be_val, be_bytes}
 use Rattle.format.proofs.MaskLaws.{mask, masked, and_mask_bytes, none_high}
 use Rattle.format.proofs.BitLaws.{bits_length_lem, spread_length, packed_length, packed_parts, spread_packed, adjusted_bits}
-use Rattle.table.specs.InOrder.{all_low, low_words}
+use Rattle.std.specs.Prelude.{Some, None}
+use Rattle.table.specs.Rows.{rows_of, words_of, Headed}
+use Rattle.table.specs.InOrder.{all_low, low_words, words_low, bits_ok, text_ok, TextJudged}
+use Rattle.table.proofs.RowLaws.{text_long, text_bits, text_codes}
+use Rattle.std.specs.Prelude.{fold}
 use Rattle.table.proofs.BitRows.{packed_be}
 
 -- the words of a string and of a BITS are those of bits
@@ -73,44 +77,25 @@ low_parts : (j k : ℕ) (bs : List Bool) → all_low (packed 8 (j + k) bs) ≡ b
 low_parts j k bs = ap all_low (packed_parts 8 j k bs) ∙ low_append (packed 8 j bs) (packed 8 k (drop (8 * j) bs))
 
 -- the codes in each of some words
-unfoldable pub words_low : List ℕ → Bool
-unfolding both all_low be
-words_low [] = true
-words_low (x ∷ ws) = both (all_low (be 8 x)) (words_low ws)
+both_and : (a b : Bool) → both a b ≡ a && b
+unfolding both
+both_and true b = refl
+both_and false b = refl
 
 pub low_list : (k i : ℕ) (w : List ℕ) → i + k ≤ length w → low_words w i k ≡ words_low (take k (drop i w))
-unfolding low_words words_low
+unfolding low_words
 low_list zero i w h = refl
 low_list (suc k) i w h =
     let e : drop i w ≡ get_or w i 0 ∷ drop (i + 1) w = drop-cons w i 0 (omega arith) ∙ ap (λ n. get_or w i 0 ∷ drop n w) (sym (add-one i)) in
-    ap (both (all_low (be 8 (get_or w i 0)))) (low_list k (i + 1) w (omega arith)) ∙ sym (ap (λ l. words_low (take (suc k) l)) e)
-
--- word by word, as the code goes
-pub low_start : (w : List ℕ) (i k : ℕ) → low_words w i k ≡ low_words w (i + 0) (k - 0)
-low_start w i k = let e : i + 0 ≡ i = omega arith in let z : k - 0 ≡ k = omega arith in rw (e, z) refl
-
-pub low_end : (w : List ℕ) (i k : ℕ) → k ≡ 0 → low_words w i k ≡ true
-unfolding low_words
-low_end w i k z = rw z refl
-
-pub low_no : (w : List ℕ) (i k : ℕ) → 0 < k → all_low (be 8 (get_or w i 0)) ≡ false → low_words w i k ≡ false
-unfolding low_words
-low_no w i zero h t = absurd (omega arith)
-low_no w i (suc k) h t = both_no (all_low (be 8 (get_or w i 0))) _ t
-
-pub low_yes : (w : List ℕ) (i j k : ℕ) → i < k → all_low (be 8 (get_or w (j + i) 0)) ≡ true → low_words w (j + i) (k - i) ≡ low_words w (j + (i + 1)) (k - (i + 1))
-unfolding low_words
-low_yes w i j k h t =
-    let e : k - i ≡ suc (k - (i + 1)) = omega arith in
-    let q : j + i + 1 ≡ j + (i + 1) = omega arith in
-    ap (low_words w (j + i)) e ∙ both_yes (all_low (be 8 (get_or w (j + i) 0))) _ t ∙ ap (λ n. low_words w n (k - (i + 1))) q
+    ap (both (all_low (be 8 (get_or w i 0)))) (low_list k (i + 1) w (omega arith)) ∙ both_and (all_low (be 8 (get_or w i 0))) _
+    ∙ sym (ap (λ l. words_low (take (suc k) l)) e)
 
 pub low_words_lem : (k : ℕ) (bs : List Bool) → words_low (packed 64 k bs) ≡ all_low (packed 8 (8 * k) bs)
-unfolding words_low packed
+unfolding packed
 low_words_lem zero bs = unfold all_low in refl
 low_words_lem (suc k) bs =
     let e : 8 + 8 * k ≡ 8 * suc k = omega arith in
-    ap₂ both (ap all_low (sym (packed_be 8 bs))) (low_words_lem k (drop 64 bs)) ∙ sym (low_parts 8 (8 * k) bs) ∙ ap (λ n. all_low (packed 8 n bs)) e
+    sym (both_and (all_low (be 8 (adjusted 64 bs))) _) ∙ ap₂ both (ap all_low (sym (packed_be 8 bs))) (low_words_lem k (drop 64 bs)) ∙ sym (low_parts 8 (8 * k) bs) ∙ ap (λ n. all_low (packed 8 n bs)) e
 
 -- fewer of them
 pub low_fewer : (a n : ℕ) (bs : List Bool) → a ≤ n → all_low (packed 8 n bs) ≡ true → all_low (packed 8 a bs) ≡ true
@@ -173,21 +158,41 @@ low_or a b h l =
     sym (low_word (bit_or a b) (or_lt 64 a b h l)) ∙ ap (λ n. eqb n 0) (and_or m a b) ∙ or_zero (bit_and a m) (bit_and b m)
     ∙ ap₂ both (low_word a h) (low_word b l)
 
-pub joined_start : (w : List ℕ) (i k : ℕ) → low_words w i k ≡ both (all_low (be 8 0)) (low_words w (i + 0) (k - 0))
+both_right_true : (b : Bool) → both b true ≡ b
+unfolding both
+both_right_true true = refl
+both_right_true false = refl
+
+joined_from : (x : ℕ) (ws : List ℕ) → x < 2 ^ 64 → ((i : ℕ) → get_or ws i 0 < 2 ^ 64) → all_low (be 8 (fold bit_or x ws)) ≡ both (all_low (be 8 x)) (words_low ws)
+joined_from x [] h f = sym (both_right_true (all_low (be 8 x)))
+joined_from x (y ∷ ws) h f =
+    joined_from (bit_or x y) ws (or_lt 64 x y h (f 0)) (λ i. f (suc i)) ∙ ap (λ b. both b (words_low ws)) (low_or x y h (f 0))
+    ∙ sym (both_assoc (all_low (be 8 x)) (all_low (be 8 y)) (words_low ws)) ∙ ap (both (all_low (be 8 x))) (both_and (all_low (be 8 y)) (words_low ws))
+
+-- words joined are low where each is
+pub low_joined : (ws : List ℕ) → ((i : ℕ) → get_or ws i 0 < 2 ^ 64) → all_low (be 8 (fold bit_or 0 ws)) ≡ words_low ws
 unfolding all_low be both
-joined_start w i k = low_start w i k
+low_joined ws f = joined_from 0 ws (omega arith) f
 
-pub joined_on : (w : List ℕ) (x i j k : ℕ) → i < k → x < 2 ^ 64 → get_or w (j + i) 0 < 2 ^ 64 →
-    both (all_low (be 8 x)) (low_words w (j + i) (k - i)) ≡ both (all_low (be 8 (bit_or x (get_or w (j + i) 0)))) (low_words w (j + (i + 1)) (k - (i + 1)))
-unfolding low_words
-joined_on w x i j k h l g =
-    let y = get_or w (j + i) 0 in
-    let e : k - i ≡ suc (k - (i + 1)) = omega arith in
-    let q : j + i + 1 ≡ j + (i + 1) = omega arith in
-    ap (λ n. both (all_low (be 8 x)) (low_words w (j + i) n)) e ∙ both_assoc (all_low (be 8 x)) (all_low (be 8 y)) _
-    ∙ ap₂ both (sym (low_or x y l g)) (ap (λ n. low_words w n (k - (i + 1))) q)
+-- the answer on a string whose bits stand where its row says, by the words that hold its codes
+module _ (w : List ℕ) (d a b n i : ℕ) (l s : Bool) (h : Headed w) (e : i ≡ 3 * rows_of w + 4 + d) (v : s ≡ bits_ok w d (8 * a) b) (t : s ≡ true) (f : s ≡ true → d + (8 * a + 63) / 64 ≤ words_of w) (m : n ≡ (8 * a + 63) / 64)
+    (q : l ≡ words_low (take (i + n - i) (drop i w))) where
+  fits : d + n ≤ words_of w
+  fits = omega (arith, f t)
 
-pub joined_end : (w : List ℕ) (b : Bool) (i k : ℕ) → k ≡ 0 → both b (low_words w i k) ≡ b
-unfolding both low_words
-joined_end w true i k z = rw z refl
-joined_end w false i k z = refl
+  many : n ≡ words_for (8 * a)
+  unfolding words_for
+  many = m
+
+  told : text_ok w d a b ≡ l
+  told =
+      text_codes w d a b (sym v ∙ t) ∙ ap₂ (low_words w) (sym e) (sym many) ∙ low_list n i w (omega (arith, h.within, fits))
+      ∙ ap (λ k. words_low (take k (drop i w))) (omega arith) ∙ sym q
+
+  pub text_high : l ≡ false → TextJudged w d a b None
+  text_high z = told ∙ z
+
+  pub text_low : l ≡ true → TextJudged w d a b (Some n)
+  text_low z = (told ∙ z, fits, many)
+
+pub ruleset judging_text = (text_high, text_low, text_long, text_bits)

@@ -17,10 +17,10 @@ use Rattle.format.proofs.TableLaws.{leaf_kind_lem, codes_length, text_length, ch
 use Rattle.format.proofs.Digits.{mag_signed, twos_signed, twos_lt}
 use Rattle.format.proofs.BitLaws.{bit_is_one, spread_length, packed_length, words_enough, bit_lt}
 use Rattle.table.specs.Rows.{kind_at, a_at, b_at, data_of, LeafRow, TextRow, data_at, data_to}
-use Rattle.table.specs.InOrder.{values, plain_ok, last_word, bits_ok, all_low, low_words, text_ok, row_ok}
+use Rattle.table.specs.InOrder.{words_low, values, plain_ok, last_word, bits_ok, all_low, low_words, text_ok, row_ok}
 use Rattle.table.proofs.RowLaws.{values_other, plain_a, plain_values, bits_first, bits_long, bits_spare, text_both, text_codes, data_bits, data_text, data_none, row_bits, row_plain}
 use Rattle.table.proofs.BitRows.{words_back, last_spare}
-use Rattle.table.proofs.CodeLaws.{text_words_lem, bits_words, in_words_lem, codes_text, string_text, proper_text, packed_whole, words_low, low_list, low_words_lem, low_fewer, low_more}
+use Rattle.table.proofs.CodeLaws.{text_words_lem, bits_words, in_words_lem, codes_text, string_text, proper_text, packed_whole, low_list, low_words_lem, low_fewer, low_more}
 
 -- ---- rows with one number
 -- the leaf of such a row, whose words do not depend on the data words before it

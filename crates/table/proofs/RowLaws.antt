@@ -1,19 +1,19 @@
 -- What the judge asks of single rows, step by step as the code asks it. Assumes nothing.
-use mathlib.Core.Path.{◌≡◌, refl, sym, ap, ◌∙◌}
+use mathlib.Core.Path.{◌≡◌, refl, sym, ap₂, ◌∙◌}
 use mathlib.Core.List.{List}
-use mathlib.Core.Bool.{true, false, not}
-use Prim.Native.Nat.{ℕ, zero, suc, ◌+◌, ◌-◌, ◌*◌, ◌/◌, ◌%◌, ◌^◌, ◌<◌, ◌≤◌}
+use mathlib.Core.Bool.{Bool, true, false, not}
+use Prim.Native.Nat.{ℕ, zero, suc, ◌+◌, ◌-◌, ◌*◌, ◌%◌, ◌^◌, ◌<◌, ◌≤◌}
 use native.Mathlib.Omega.{arith}
 use native.Mathlib.Numerals.{add-one}
 use lib.ListN.{get_or}
 use lib.Dec.{ltb, eqb}
-use Rattle.table.specs.declared.Judged.{Judged}
-use Rattle.table.specs.declared.Judged.TheVariants.{Wrong, Right}
+use Rattle.std.specs.Prelude.{Option, Some, None}
+use Rattle.std.specs.Bool.{then_some}
 use Rattle.format.specs.Choice.{if_eq, both, either}
 use Rattle.format.specs.Bits.{words_for}
-use Rattle.format.proofs.Choices.{pick_yes, pick_no, if_lt_yes, if_lt_no, if_eq_yes, if_eq_no, lt_true, lt_false, eq_true, eq_false, by_lt, split, split_eq, both_left, both_right, both_yes, both_no}
-use Rattle.table.specs.Rows.{next_row, kind_at, a_at, b_at, single, lands, data_at, data_to}
-use Rattle.table.specs.InOrder.{chars_f, all_chars, int_at, edt_rows, kind_ok, group_ok, values, plain_ok, last_word, bits_ok, low_words, text_ok, row_ok, IntRows, BitsJudged, TextJudged, RowJudged}
+use Rattle.format.proofs.Choices.{pick_yes, pick_no, if_lt_yes, if_lt_no, if_eq_yes, if_eq_no, lt_true, lt_false, eq_true, eq_false, by_lt, split, split_eq, whether, both_left, both_right, both_yes, both_no}
+use Rattle.table.specs.Rows.{next_row, kind_at, a_at, b_at, single, lands, data_at, data_to, rows_of, words_of}
+use Rattle.table.specs.InOrder.{chars_f, all_chars, int_at, edt_rows, kind_fits, kind_ok, group_ok, values, plain_ok, last_word, bits_ok, low_words, text_ok, row_ok, BitsJudged, TextJudged, RowJudged, RowsInOrder}
 
 module _ (k : ℕ) where
   pub single_leaf : k < 7 → single k ≡ true
@@ -23,10 +23,6 @@ module _ (k : ℕ) where
   pub single_text : k ≡ 9 → single k ≡ true
   unfolding single either
   single_text e = rw (lt_false k 7 (omega arith)) (eq_true k 9 e)
-
-  pub single_nine : 7 ≤ k → single k ≡ eqb k 9
-  unfolding single either
-  single_nine h = rw (lt_false k 7 h) refl
 
   pub single_not : 7 ≤ k → (k ≡ 9 → ⊥) → single k ≡ false
   unfolding single either
@@ -72,6 +68,15 @@ module _ (w : List ℕ) (e : ℕ) where
       let z : suc n - 1 ≡ n = omega arith in
       rw z (if_lt_yes p e _ _ l ∙ pick_no (single (kind_at w p)) _ _ k ∙ if_lt_no (e - (p + 1)) (b_at w p) _ _ s)
 
+  -- past an item of one row, and over a container's elements
+  pub lands_past : (n m p q : ℕ) → m + 1 ≡ n → q ≡ p + 1 → p < e → single (kind_at w p) ≡ true → lands w n p e ≡ lands w m q e
+  lands_past n m p q k j l s = lands_leaf n p (omega arith) l s ∙ ap₂ (λ x y. lands w x y e) (omega arith) (sym j)
+
+  pub lands_over : (n m p q : ℕ) → m + 1 ≡ n → q ≡ p + 1 + b_at w p → p < e → single (kind_at w p) ≡ false → b_at w p ≤ e - (p + 1) → lands w n p e ≡ lands w m q e
+  lands_over n m p q k j l s b = lands_group n p (omega arith) l s b ∙ ap₂ (λ x y. lands w x y e) (omega arith) (sym j)
+
+pub ruleset hopping = (lands_end, lands_out, lands_past, lands_beyond, lands_over)
+
 -- ---- strings
 module _ (w : List ℕ) (p e : ℕ) where
   pub chars_out : e ≤ p → all_chars w p e ≡ true
@@ -107,17 +112,7 @@ module _ (w : List ℕ) (p e : ℕ) where
   unfolding edt_rows
   edt_in h = if_lt_yes p e _ _ h
 
-  pub edt_int : p < e → kind_at w p ≡ 1 → edt_rows w p e ≡ int_at w (p + 1) e
-  unfolding both either
-  edt_int h k = edt_in h ∙ rw (eq_true (kind_at w p) 1 k) refl
-
-  pub edt_text : p < e → kind_at w p ≡ 9 → edt_rows w p e ≡ int_at w (p + 1) e
-  unfolding both either
-  edt_text h k = edt_in h ∙ rw (eq_false (kind_at w p) 1 (λ z. omega arith), eq_true (kind_at w p) 9 k) refl
-
-  pub edt_other : p < e → (kind_at w p ≡ 1 → ⊥) → (kind_at w p ≡ 9 → ⊥) → edt_rows w p e ≡ false
-  unfolding both either
-  edt_other h j k = edt_in h ∙ rw (eq_false (kind_at w p) 1 j, eq_false (kind_at w p) 9 k) refl
+pub ruleset passing_chars = (chars_out, chars_yes, chars_no)
 
 -- ---- groups
 module _ (w : List ℕ) (R p : ℕ) where
@@ -136,15 +131,15 @@ module _ (w : List ℕ) (R p : ℕ) where
 
 module _ (w : List ℕ) (p e : ℕ) where
   pub kind_struc : kind_at w p ≡ 7 → kind_ok w p e ≡ not (all_chars w (p + 1) e)
-  unfolding kind_ok
+  unfolding kind_ok kind_fits
   kind_struc k = if_eq_yes (kind_at w p) 7 _ _ k
 
   pub kind_edt : kind_at w p ≡ 8 → kind_ok w p e ≡ edt_rows w (p + 1) e
-  unfolding kind_ok
+  unfolding kind_ok kind_fits
   kind_edt k = if_eq_no (kind_at w p) 7 _ _ (λ z. omega arith) ∙ if_eq_yes (kind_at w p) 8 _ _ k
 
   pub kind_other : (kind_at w p ≡ 7 → ⊥) → (kind_at w p ≡ 8 → ⊥) → kind_ok w p e ≡ false
-  unfolding kind_ok
+  unfolding kind_ok kind_fits
   kind_other j k = if_eq_no (kind_at w p) 7 _ _ j ∙ if_eq_no (kind_at w p) 8 _ _ k
 
 -- ---- rows with one number
@@ -163,6 +158,12 @@ plain_values k a b h = if_eq_yes a 0 _ _ h
 pub plain_int : (k a b : ℕ) → a ≡ 0 → k ≡ 1 → b < 2 ^ 64 → plain_ok k a b ≡ true
 unfolding values
 plain_int k a b h e l = plain_values k a b h ∙ rw (if_eq_yes k 1 (2 ^ 64) (if_eq k 3 128 (if_eq k 4 2 (if_eq k 5 1 (if_eq k 6 4 0)))) e) (lt_true b (2 ^ 64) l)
+
+pub plain_none : (k a b : ℕ) → 7 ≤ k → plain_ok k a b ≡ false
+plain_none k a b h =
+    split_eq a 0
+    (λ z. plain_values k a b z ∙ lt_false b (values k) (omega (arith, values_other k (λ z. omega arith) (λ z. omega arith) (λ z. omega arith) (λ z. omega arith) (λ z. omega arith))))
+    (λ z. plain_a k a b z)
 
 -- ---- BITS
 module _ (w : List ℕ) (d a b : ℕ) where
@@ -196,9 +197,6 @@ module _ (w : List ℕ) (d a b : ℕ) where
   pub text_long : get_or w 3 0 ≤ 16384 → 131072 < a → text_ok w d a b ≡ false
   text_long l h =
       text_bits (split_eq b d (λ e. bits_long w d (8 * a) b e (omega arith)) (λ n. bits_first w d (8 * a) b n))
-
-pub text_low : (w : List ℕ) (r d a n : ℕ) → r ≡ get_or w 0 0 → n ≡ words_for (8 * a) → low_words w (3 * get_or w 0 0 + 4 + d) (words_for (8 * a)) ≡ low_words w (3 * r + 4 + d) n
-text_low w r d a n e m = rw (e, m) refl
 
 -- ---- any row
 pub data_suc : (w : List ℕ) (p : ℕ) → data_to w (p + 1) ≡ data_to w p + data_at w p
@@ -234,52 +232,42 @@ module _ (w : List ℕ) (R p : ℕ) where
   unfolding row_ok
   row_plain l k = if_lt_yes (kind_at w p) 7 _ _ l ∙ if_eq_no (kind_at w p) 2 _ _ k
 
-  -- a right row that takes no data words
-  pub right_none : (D d : ℕ) → row_ok w R p ≡ true → (kind_at w p ≡ 2 → ⊥) → (kind_at w p ≡ 9 → ⊥) → d ≡ data_to w p → d ≤ D → RowJudged w p R D d (Right 0)
-  right_none D d t k n e l = (t, omega arith, rw (data_suc w p, data_none w p k n) (omega arith))
+  -- a row of a kind without data words, that is no container's
+  pub row_other : (kind_at w p ≡ 2 → ⊥) → (kind_at w p ≡ 7 → ⊥) → (kind_at w p ≡ 8 → ⊥) → (kind_at w p ≡ 9 → ⊥) → row_ok w R p ≡ plain_ok (kind_at w p) (a_at w p) (b_at w p)
+  row_other n2 n7 n8 n9 =
+      split (kind_at w p) 7 (λ l. row_plain l n2)
+      (λ g.
+      let q : group_ok w R p ≡ false =
+      split (R - (p + 1)) (b_at w p) (λ l. group_beyond w R p l)
+      (λ l. whether (lands w (a_at w p) (p + 1) (p + 1 + b_at w p)) (λ m. group_landed w R p l m ∙ kind_other w p _ n7 n8) (λ m. group_missed w R p m)) in
+      row_group g n9 ∙ q ∙ sym (plain_none (kind_at w p) (a_at w p) (b_at w p) g))
+  -- the answer on a row that takes no data words
 
-  pub bits_judged : (D d : ℕ) (r : Judged) → kind_at w p ≡ 2 → d ≡ data_to w p → BitsJudged w d (a_at w p) (b_at w p) D r → RowJudged w p R D d r
-  bits_judged D d Wrong k e j = row_bits k ∙ (rw e at j)
-  bits_judged D d (Right n) k e j = (row_bits k ∙ (rw e at j.0), j.1, rw (data_suc w p, data_bits w p k, j.2, e) refl)
+pub plain_judged : (w : List ℕ) (p d : ℕ) (b : Bool) → row_ok w (rows_of w) p ≡ b → (kind_at w p ≡ 2 → ⊥) → (kind_at w p ≡ 9 → ⊥) → d ≡ data_to w p → d ≤ words_of w → RowJudged w p d (then_some b 0)
+plain_judged w p d true t k n e l = (t, omega arith, rw (data_suc w p, data_none w p k n) (omega arith))
+plain_judged w p d false t k n e l = t
 
-  pub text_judged : (D d : ℕ) (r : Judged) → kind_at w p ≡ 9 → d ≡ data_to w p → TextJudged w d (a_at w p) (b_at w p) D r → RowJudged w p R D d r
-  text_judged D d Wrong k e j = row_text_lem k ∙ (rw e at j)
-  text_judged D d (Right n) k e j = (row_text_lem k ∙ (rw e at j.0), j.1, rw (data_suc w p, data_text w p k, j.2, e) refl)
+pub bits_judged : (w : List ℕ) (p d : ℕ) (r : Option ℕ) → kind_at w p ≡ 2 → d ≡ data_to w p → BitsJudged w d (a_at w p) (b_at w p) r → RowJudged w p d r
+bits_judged w p d None k e j = row_bits w (rows_of w) p k ∙ (rw e at j)
+bits_judged w p d (Some n) k e j = (row_bits w (rows_of w) p k ∙ (rw e at j.0), j.1, rw (data_suc w p, data_bits w p k, j.2, e) refl)
 
-pub last_is : (w : List ℕ) (r d n : ℕ) → r ≡ get_or w 0 0 → get_or w (3 * r + 3 + d + (n + 63) / 64) 0 ≡ last_word w d n
-unfolding last_word words_for
-last_is w r d n e = rw e refl
+pub text_judged : (w : List ℕ) (p d : ℕ) (r : Option ℕ) → kind_at w p ≡ 9 → d ≡ data_to w p → TextJudged w d (a_at w p) (b_at w p) r → RowJudged w p d r
+text_judged w p d None k e j = row_text_lem w (rows_of w) p k ∙ (rw e at j)
+text_judged w p d (Some n) k e j = (row_text_lem w (rows_of w) p k ∙ (rw e at j.0), j.1, rw (data_suc w p, data_text w p k, j.2, e) refl)
 
--- rows in order up to q, and one row more
-pub row_on : (w : List ℕ) (R q : ℕ) → ((i : ℕ) → i < q → row_ok w R i ≡ true) → row_ok w R q ≡ true → (i : ℕ) → i < q + 1 → row_ok w R i ≡ true
-row_on w R q f t i h = split i q (λ l. f i l) (λ g. let e : q ≡ i = omega arith in rw e at t)
+-- rows in order before p, and one row more
+pub row_on : (w : List ℕ) (p : ℕ) → RowsInOrder w p → row_ok w (rows_of w) p ≡ true → RowsInOrder w (p + 1)
+row_on w p f t i h = split i p (λ l. f i l) (λ g. let e : p ≡ i = omega arith in rw e at t)
 
--- INTs in order are rows in order, and take no data words
-pub ints_start : (w : List ℕ) (p e : ℕ) → p ≤ e → IntRows w p e p
-ints_start w p e h = record { start = omega arith; within = h; each = λ i l m. absurd (omega arith) }
+-- an INT with nothing in its second word is in order, and takes no data words
+pub int_judged : (w : List ℕ) (p d : ℕ) → kind_at w p ≡ 1 → a_at w p ≡ 0 → b_at w p < 2 ^ 64 → d ≡ data_to w p → d ≤ words_of w → RowJudged w p d (Some 0)
+int_judged w p d k a b e l =
+    plain_judged w p d true (row_plain w (rows_of w) p (omega arith) (λ z. omega arith) ∙ plain_int (kind_at w p) (a_at w p) (b_at w p) a k b) (λ z. omega arith) (λ z. omega arith) e l
 
-pub ints_on : (w : List ℕ) (p e q : ℕ) → IntRows w p e q → q < e → kind_at w q ≡ 1 → a_at w q ≡ 0 → IntRows w p e (q + 1)
-ints_on w p e q r h k a =
-    let s = r.start in
-    record { start = omega arith; within = omega arith; each = λ i l m. split i q (λ z. r.each i l z) (λ z. let j : q ≡ i = omega arith in (rw j at k, rw j at a)) }
+-- behind a row in order
+pub judged_on : (w : List ℕ) (p d n e : ℕ) → RowsInOrder w p → e ≡ d + n → RowJudged w p d (Some n) → RowsInOrder w (p + 1) × (e ≡ data_to w (p + 1)) × (e ≤ words_of w)
+judged_on w p d n e f q j = (row_on w p f j.0, q ∙ j.2, omega (arith, j.1))
 
-pub ints_ok : (w : List ℕ) (R p e q : ℕ) → ((i : ℕ) → get_or w i 0 < 2 ^ 64) → IntRows w p e q
-    → ((i : ℕ) → i < p → row_ok w R i ≡ true) → (i : ℕ) → i < q → row_ok w R i ≡ true
-ints_ok w R p e q b r f i h =
-    split i p (λ l. f i l)
-    (λ l.
-    let k = r.each i l h in
-    row_plain w R i (omega (arith, k.0)) (λ z. omega (arith, k.0)) ∙ plain_int (kind_at w i) (a_at w i) (b_at w i) k.1 k.0 (b (3 * i + 6)))
+pub ruleset judging_row = (row_group, row_other, plain_judged, bits_judged, text_judged)
 
-ints_none : (w : List ℕ) (p e q n : ℕ) → IntRows w p e q → p + n ≤ q → data_to w (p + n) ≡ data_to w p
-ints_none w p e q zero r h = ap (data_to w) (omega arith)
-ints_none w p e q (suc n) r h =
-    let k = r.each (p + n) (omega arith) (omega arith) in
-    let i : p + suc n ≡ p + n + 1 = omega arith in
-    ap (data_to w) i ∙ data_suc w (p + n) ∙ omega (arith, data_none w (p + n) (λ z. omega (arith, k.0)) (λ z. omega (arith, k.0)), ints_none w p e q n r (omega arith))
-
-pub ints_data : (w : List ℕ) (p e q : ℕ) → IntRows w p e q → data_to w q ≡ data_to w p
-ints_data w p e q r =
-    let s = r.start in
-    let i : p + (q - p) ≡ q = omega arith in
-    ap (data_to w) (sym i) ∙ ints_none w p e q (q - p) r (omega arith)
+pub ruleset judging_rows = (judged_on, int_judged)

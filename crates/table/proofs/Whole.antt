@@ -13,8 +13,10 @@ use Rattle.format.specs.Items.{Items, proper}
 use Rattle.format.specs.Tables.{count, rows, data_words, row_words, table_of, lawful, items_of}
 use Rattle.format.proofs.Choices.{le_true, both_true, clash}
 use Rattle.format.proofs.TableLaws.{row_length, lawful_proper, lawful_rows, lawful_words, table_back, table_only}
-use Rattle.table.specs.Rows.{data_of, Stands, Header, Headed, HeaderJudged, lands, data_to}
-use Rattle.table.specs.InOrder.{row_ok, is_some}
+use Rattle.table.specs.Rows.{data_of, Stands, Header, Headed, lands, data_to, rows_of, words_of}
+use Rattle.std.specs.Prelude.{Some, None, Option as Maybe}
+use Rattle.std.specs.Option.{option_eq}
+use Rattle.table.specs.InOrder.{RowsJudged, is_some}
 use borrow.Author.Tests.{eqb-true, eqb-false}
 use Rattle.table.proofs.Judging.{AllOk, Found, sound, complete}
 
@@ -133,31 +135,35 @@ formed_no w n = go (items_of w) refl
     go (some xs) e = absurd (n (whole w xs e).formed)
 
 -- ---- the header by its judge
+abbrev pub HeaderJudged : List ℕ → Bool → Type 0
+HeaderJudged w true = Headed w
+HeaderJudged w false = Headed w → ⊥
+
 pub headed : (w : List ℕ) (r : Bool) → HeaderJudged w r → r ≡ true → Headed w
 headed w true h e = h
 headed w false h e = clash false e refl
 
-pub unheaded : (w : List ℕ) (r : Bool) → HeaderJudged w r → r ≡ false → false ≡ is_some (items_of w)
-unheaded w true h e = clash true refl e
-unheaded w false n e = formed_no w (λ f. n f.header)
+pub unheaded : (w : List ℕ) → (Headed w → ⊥) → false ≡ is_some (items_of w)
+unheaded w n = formed_no w (λ f. n f.header)
 
--- as the code ends: the rows are in order, and the data words are compared
-pub formed_end : (w : List ℕ) (R D d : ℕ) → Header w R D → ((i : ℕ) → get_or w i 0 < 2 ^ 64) → lands w (get_or w 1 0) 0 R ≡ true →
-    ((i : ℕ) → i < R → row_ok w R i ≡ true) → d ≡ data_to w R → eqb d D ≡ is_some (items_of w)
-formed_end w R D d h bound l each e = go (eqb d D) refl
+pub unlanded : (w : List ℕ) → lands w (get_or w 1 0) 0 (rows_of w) ≡ false → false ≡ is_some (items_of w)
+unlanded w l = formed_no w (λ f. clash _ f.outer l)
+
+-- as the code ends: the rows are judged, and the data words are compared
+pub rows_end : (w : List ℕ) (r : Maybe ℕ) → Headed w → ((i : ℕ) → get_or w i 0 < 2 ^ 64) → lands w (get_or w 1 0) 0 (rows_of w) ≡ true → RowsJudged w r
+    → option_eq eqb r (Some (words_of w)) ≡ is_some (items_of w)
+rows_end w None h bound l j = formed_no w (λ f. j (λ i u. f.each i (omega arith) u))
+rows_end w (Some d) h bound l j = go (eqb d (words_of w)) refl
   where
-    go : (b : Bool) → eqb d D ≡ b → b ≡ is_some (items_of w)
+    go : (b : Bool) → eqb d (words_of w) ≡ b → b ≡ is_some (items_of w)
     go true q =
-        let hr = h.rows in
-        let hf = h.few in
-        let hl = h.little in
-        let hd = h.words in
-        let hw = h.within in
         formed_yes w bound (record {
-          long = omega arith;
-          header = record { rows = refl; words = refl; offset = rw hr at h.offset; few = omega arith; little = omega arith; within = omega arith };
-          outer = rw hr at l;
-          each = λ i u v. rw hr at (each i (omega arith));
-          all = rw hr at (sym e ∙ eqb-true d D q ∙ hd);
+          long = omega (arith, h.within);
+          header = h;
+          outer = l;
+          each = λ i u v. j.0 i v;
+          all = sym j.1 ∙ eqb-true d (words_of w) q;
         })
-    go false q = formed_no w (λ f. eqb-false d D q (e ∙ ap (data_to w) h.rows ∙ f.all ∙ sym h.words))
+    go false q = formed_no w (λ f. eqb-false d (words_of w) q (j.1 ∙ f.all))
+
+pub ruleset judging = (rows_end, unlanded)

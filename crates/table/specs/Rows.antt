@@ -116,10 +116,6 @@ words_of w = get_or w 3 0
 abbrev pub Headed : List ℕ → Type 0
 Headed w = Header w (rows_of w) (words_of w)
 
-abbrev pub HeaderJudged : List ℕ → Bool → Type 0
-HeaderJudged w true = Headed w
-HeaderJudged w false = Headed w → ⊥
-
 -- a kind whose items are one row: all but STRUC and EDT
 unfoldable pub single : ℕ → Bool
 unfolding either

@@ -1,111 +1,105 @@
 // The data of a row: whether the bits of a BITS and the codes of a string stand where their row says.
-ghost use Rattle.std.specs.Prelude.{◌≡◌, ◌+◌, ◌^◌, ◌≤◌, ◌<◌, length};
+ghost use Rattle.std.specs.Prelude.{◌≡◌, ◌+◌, ◌/◌, ◌^◌, ◌≤◌, ◌<◌, true, fold, bit_or};
 ghost use Rattle.format.specs.Numbers.{be};
-ghost use Rattle.table.specs.Rows.{Header, a_at, b_at};
-ghost use Rattle.table.specs.InOrder.{all_low, low_words, BitsJudged, TextJudged};
+ghost use Rattle.table.specs.Rows.{words_of};
+ghost use Rattle.table.specs.InOrder.{all_low, words_low, bits_ok, BitsJudged, TextJudged};
 
-use crate::Judged;
+use crate::header::Framed;
 use format::limits::MOST_WORDS;
 
+#[tactic(auto, using(crate::proofs::BitRows::power))]
 fn power(k: usize) -> u64
     requires { k < 64 }
     ensures { result ≡ 2 ^ k }
 {
-    1u64 << (k as u64)
+    1 << k
 }
 
-// So many bits in the data words from `first` on, where `base` data words came before them.
-pub fn bits_row(
-    table: &[u64],
-    bits: usize,
-    first: usize,
-    rows: usize,
-    words: usize,
-    base: usize,
-) -> Judged
-    requires { Header table.now rows words × (base ≤ words) }
-    ensures { BitsJudged table.now base bits first words result }
+// The data words that so many bits take. Two instructions fewer than `div_ceil`, for each string and BITS.
+fn words_for(bits: usize) -> usize
+    requires { bits < 2 ^ 63 }
+    ensures { result ≡ (bits + 63) / 64 }
 {
-    if first != base {
-        return Judged::Wrong;
+    (bits + 63) / 64
+}
+
+// Whether so many bits stand in the data words from `first` on, where `base` data words came before them.
+#[tactic(auto, unfolding(crate::specs::InOrder::bits_ok, crate::specs::InOrder::last_word, format::specs::Bits::words_for, format::specs::Choice::if_eq, format::specs::Choice::if_lt))]
+fn bits_stand(table: Framed<'_>, bits: usize, first: usize, base: usize) -> bool
+    requires { base ≤ words_of table.words.now }
+    ensures value { result ≡ bits_ok table.entry.words.now base bits first }
+    ensures fits { result ≡ true → base + (bits + 63) / 64 ≤ words_of table.entry.words.now }
+{
+    if first != base || 64 * (table.data() - base) < bits {
+        return false;
     }
-    if 64 * (words - base) < bits {
-        return Judged::Wrong;
+    let used = words_for(bits);
+    let last = table.words[table.data_start() + base + used - 1];
+    last % power(64 * used - bits) == 0
+}
+
+// The data words that they take, if they stand there.
+#[tactic(auto, unfolding(format::specs::Bits::words_for))]
+pub fn bits_row(table: Framed<'_>, bits: usize, first: usize, base: usize) -> Option<usize>
+    requires { base ≤ words_of table.words.now }
+    ensures { BitsJudged table.entry.words.now base bits first result }
+{
+    if bits_stand(table, bits, first, base) {
+        Some(words_for(bits))
+    } else {
+        None
     }
-    let used = (bits + 63) / 64;
-    if table[3 * rows + 3 + base + used] % power(64 * used - bits) == 0 {
-        return Judged::Right(used);
-    }
-    Judged::Wrong
 }
 
 // Whether all eight bytes of a word are below 128.
+#[tactic(auto, using(crate::proofs::CodeLaws::low_word))]
 fn low_word(word: u64) -> bool
     ensures { result ≡ all_low (be 8 word) }
 {
     word & 0x8080808080808080 == 0
 }
 
-// Whether all bytes of `count` words are below 128. The words are joined before the test, with no way out of this loop, so that the
-// compiler takes several at a time.
-fn low_joined(table: &[u64], from: usize, count: usize) -> bool
-    requires { from + count ≤ length table.now }
-    ensures { result ≡ low_words table.now from count }
+// The bits that any of these words has.
+#[inline(never)]
+fn joined(words: &[u64]) -> u64
+    ensures { result ≡ fold bit_or 0 words.now }
 {
-    let mut joined: u64 = 0;
-    let mut i: usize = 0;
-    while i < count {
-        joined = joined | table[from + i];
-        i += 1;
-    }
-    low_word(joined)
+    words.iter().fold(0, |all, word| all | *word)
 }
 
-// The same, word by word where there are few, as in most strings.
-fn low_words(table: &[u64], from: usize, count: usize) -> bool
-    requires { from + count ≤ length table.now }
-    ensures { result ≡ low_words table.now from count }
+// Whether all bytes of these words are below 128. Many words are joined before the test, with no way out of that loop, so that the
+// compiler takes several at a time; most strings have few.
+#[tactic(auto, using(crate::proofs::CodeLaws::low_joined))]
+fn low_words(words: &[u64]) -> bool
+    ensures { result ≡ words_low words.now }
 {
-    if count >= 8 {
-        return low_joined(table, from, count);
+    if words.len() >= 8 {
+        low_word(joined(words))
+    } else {
+        words.iter().all(|word| low_word(*word))
     }
-    let mut i: usize = 0;
-    while i < count {
-        if !low_word(table[from + i]) {
-            return false;
-        }
-        i += 1;
-    }
-    true
 }
 
 // The codes that all data words have room for.
 const MOST_CODES: usize = 8 * MOST_WORDS;
 
-// The row of a string, where `base` data words came before it: its codes are a run of bits, of eight each.
-pub fn string_row(table: &[u64], p: usize, rows: usize, words: usize, base: usize) -> Judged
-    requires { Header table.now rows words × (p < rows) × (base ≤ words) }
-    ensures { TextJudged table.now base (a_at table.now p) (b_at table.now p) words result }
+// The data words that the codes of a string of so many characters take, where `base` data words came before it: a run of bits, of
+// eight each, from `first` on.
+#[tactic(auto, using(crate::proofs::CodeLaws::judging_text))]
+pub fn string_row(table: Framed<'_>, count: usize, first: usize, base: usize) -> Option<usize>
+    requires { base ≤ words_of table.words.now }
+    ensures { TextJudged table.entry.words.now base count first result }
 {
-    let count = table[3 * p + 5] as usize;
     if count > MOST_CODES {
-        return Judged::Wrong;
+        return None;
     }
-    let row = bits_row(
-        table,
-        8 * count,
-        table[3 * p + 6] as usize,
-        rows,
-        words,
-        base,
-    );
-    match row {
-        Judged::Wrong => return Judged::Wrong,
-        Judged::Right(used) => {
-            if low_words(table, 3 * rows + 4 + base, used) {
-                return Judged::Right(used);
-            }
-            return Judged::Wrong;
-        }
+    if !bits_stand(table, 8 * count, first, base) {
+        return None;
     }
+    let used = words_for(8 * count);
+    let from = table.data_start() + base;
+    if !low_words(&table.words[from..from + used]) {
+        return None;
+    }
+    Some(used)
 }

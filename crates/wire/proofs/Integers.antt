@@ -1,6 +1,6 @@
 -- The whole number that k bytes stand for in two's complement, from the high bytes of a word. Assumes nothing.
 use Prim.Native.Nat.{ℕ, ◌-◌, ◌*◌, ◌/◌, ◌%◌, ◌^◌, ◌≤◌, ◌<◌}
-use mathlib.Core.Path.{◌≡◌, refl, sym, ap, ◌∙◌}
+use mathlib.Core.Path.{◌≡◌, refl, ap, ◌∙◌}
 use mathlib.Core.List.{List}
 use native.Mathlib.Omega.{arith}
 use lib.ListN.{length, take}
@@ -15,7 +15,7 @@ use Rattle.format.proofs.Choices.{if_lt_yes, if_lt_no, split}
 use Rattle.format.proofs.SignedLaws.{handed}
 use Rattle.wire.proofs.WordLaws.{each_of_eight}
 
-integer_take : (s : List ℕ) (k : ℕ) → k ≤ length s → integer (take k s) ≡ signed k (val (take k s))
+pub integer_take : (s : List ℕ) (k : ℕ) → k ≤ length s → integer (take k s) ≡ signed k (val (take k s))
 unfolding integer
 integer_take s k h = rw (length-take-le k s h) refl
 
@@ -60,7 +60,3 @@ pub raised : (n k : ℕ) → n < 256 ^ k → 0 < k → k ≤ 8 → n * 2 ^ (64 -
 raised n k hn p l =
     each_of_eight (λ j. n < 256 ^ j → n * 2 ^ (64 - 8 * j) % 2 ^ 64 / 2 ^ (64 - 8 * j) ≡ n)
     (λ h. omega arith, (λ h. omega arith, (λ h. omega arith, (λ h. omega arith, (λ h. omega arith, (λ h. omega arith, (λ h. omega arith, (λ h. omega arith, tt)))))))) k p l hn
-
--- what k bytes of this number stand for, as it is handed on
-pub integer_is : (s : List ℕ) (k n : ℕ) (z : ℤ) → mag z < 2 ^ 63 → k ≤ length s → n ≡ val (take k s) → z ≡ signed k n → to_z w64 (of_z w64 z) ≡ integer (take k s)
-integer_is s k n z f h e ez = handed (integer (take k s)) z f (ez ∙ ap (signed k) e ∙ sym (integer_take s k h))

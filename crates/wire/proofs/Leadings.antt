@@ -15,7 +15,10 @@ use Rattle.format.specs.Objects as O
 use Rattle.format.proofs.Choices.{if_lt_yes, if_lt_no, split}
 use Rattle.format.proofs.Parts.{rest_part}
 use Rattle.format.proofs.TypeBytes.{InClass}
-use Rattle.wire.specs.declared.integer.Leading.TheVariants.{Cut, Found}
+use Rattle.std.specs.Prelude.{Result, Ok, Err}
+use Rattle.wire.specs.declared.integer.Integer.{Integer}
+use Rattle.wire.specs.declared.integer.NoInteger.{NoInteger}
+use Rattle.wire.specs.declared.integer.NoInteger.TheVariants.{Cut}
 use Rattle.wire.proofs.ClassCases.{of_class}
 use Rattle.wire.specs.Heads.{LeadingIs, onward, Unpadded, linteger_at}
 
@@ -55,21 +58,28 @@ at_class s i b c h eb ec u =
     u.skipped ∙ ap (λ l. onward i (O.leading l)) (drop-cons s i 0 h ∙ ap (λ x. x ∷ drop (suc i) s) (sym eb))
     ∙ ap (λ k. onward i (O.leading_by k b (drop (suc i) s) (O.leading (drop (suc i) s)))) (sym ec)
 
-pub leading_small : (s : List ℕ) (i b : ℕ) (z : ℤ) → z ≡ pos (b % 64) → i < length s → b ≡ get_or s i 0 → C.Sinteger ≡ class_of b → Unpadded s i
-    → LeadingIs s (Found z (i + 1))
+pub leading_small : (s : List ℕ) (i b : ℕ) (n : Integer) → n.value ≡ pos (b % 64) → n.bytes ≡ i + 1 → i < length s → b ≡ get_or s i 0 → C.Sinteger ≡ class_of b → Unpadded s i
+    → LeadingIs s (Ok n)
 unfolding O.leading_by onward
-leading_small s i b z ez h eb ec u =
+leading_small s i b n ez en h eb ec u =
     let r = of_class b C.Sinteger ec in
     let e : b % 64 ≡ b - 128 = omega (arith, r.0, r.1) in
-    (at_class s i b C.Sinteger h eb ec u ∙ ap (λ y. O.found y (i + 1)) (ap pos (sym e) ∙ sym ez), omega arith)
+    (at_class s i b C.Sinteger h eb ec u ∙ ap (λ y. O.found y (i + 1)) (ap pos (sym e) ∙ sym ez) ∙ ap (O.found n.value) (sym en), omega arith)
 
-pub linteger_cut : (s : List ℕ) (i b k : ℕ) → k ≡ O.following b → length s - (i + 1) < k → Cut i (k - (length s - (i + 1))) ≡ linteger_at s i b
+-- where an LINTEGER ends too early, and what it is
+abbrev pub cut_at : ℕ → ℕ → Result Integer NoInteger
+cut_at i k = Err (Cut i k)
+
+abbrev pub found_at : ℤ → ℕ → Result Integer NoInteger
+found_at z u = Ok (record { value = z; bytes = u })
+
+pub linteger_cut : (s : List ℕ) (i b k : ℕ) → k ≡ O.following b → length s - (i + 1) < k → cut_at i (k - (length s - (i + 1))) ≡ linteger_at s i b
 unfolding linteger_at
 linteger_cut s i b k ek l =
-    ap (λ j. Cut i (j - (length s - (i + 1)))) ek ∙ sym (if_lt_yes (length s - (i + 1)) (O.following b) _ _ (rw ek at l))
+    ap (λ j. cut_at i (j - (length s - (i + 1)))) ek ∙ sym (if_lt_yes (length s - (i + 1)) (O.following b) _ _ (rw ek at l))
 
 pub linteger_found : (s : List ℕ) (i b k : ℕ) (z : ℤ) → k ≡ O.following b → k ≤ length s - (i + 1)
-    → z ≡ O.integer (take k (take (length s - (i + 1)) (drop (i + 1) s))) → Found z (i + 1 + k) ≡ linteger_at s i b
+    → z ≡ O.integer (take k (take (length s - (i + 1)) (drop (i + 1) s))) → found_at z (i + 1 + k) ≡ linteger_at s i b
 unfolding linteger_at
 linteger_found s i b k z ek g ez =
     rw (ez, rest_part s (i + 1), ek) (sym (if_lt_no (length s - (i + 1)) (O.following b) _ _ (rw ek at g)))

@@ -3,6 +3,7 @@ use Prim.Native.Nat.{ℕ, ◌-◌, ◌*◌, ◌%◌, ◌^◌, ◌≤◌}
 use mathlib.Core.Path.{◌≡◌, refl, sym}
 use mathlib.Core.Logic.{◌≢◌}
 use mathlib.Core.List.{List}
+use Rattle.std.specs.Prelude.{Ok}
 use native.Mathlib.Omega.{arith}
 use lib.Count.{count_leading_zeros}
 use lib.ListN.{length, take, get_or}
@@ -21,8 +22,8 @@ pushed_out v n e = rw e (omega arith)
 pub bits_at : (b n : ℕ) (s : List ℕ) → Bytes s → 0xf0 ≤ b → b ≤ 0xf7 → O.following b ≤ length s → get_or s 0 0 ≢ 0 → n ≡ 8 * O.following b - 1 - count_leading_zeros 8 (get_or s 0 0) → BitsAt b s n
 unfolding marked_word
 bits_at b n s hb lo hi hl z en =
-    let h : (d : ℕ) → HeadIs s (Sbits n (val (take (O.following b) s) * 2 ^ (64 - n) % 2 ^ 64) (O.following b)) (O.head_of d b s)
+    let h : (d : ℕ) → HeadIs s (Ok (Sbits n (val (take (O.following b) s) * 2 ^ (64 - n) % 2 ^ 64) (O.following b))) (O.head_of d b s)
     = λ d.
-    by_class d b s (Sbits n (val (take (O.following b) s) * 2 ^ (64 - n) % 2 ^ 64) (O.following b)) C.Sbitstr (sym (sbitstr_class_at b lo (omega arith)))
+    by_class d b s (Ok (Sbits n (val (take (O.following b) s) * 2 ^ (64 - n) % 2 ^ 64) (O.following b))) C.Sbitstr (sym (sbitstr_class_at b lo (omega arith)))
     (sbitstr_sbits d b (O.following b) n (val (take (O.following b) s)) _ s hb refl hl z en refl (pushed_out (val (take (O.following b) s)) n) (λ p. refl)) in
     record { head = h; within = hl; few = (h 0).2.few }

@@ -33,10 +33,6 @@ small_at b s g h =
     let r = sinteger_row 0 b s (g, h) in
     at_class C.Sinteger b s 1 (b % 64) 0 (small_class_at b g h) r.0 (λ d. r.1) r.2
 
--- what the tests for integers say of the byte
-pub small_byte : (b : ℕ) (t : Bool) → t ≡ eqb (b / 64) 2 → t ≡ true → (0x80 ≤ b) × (b ≤ 0xbf)
-small_byte b t e h = let q : b / 64 ≡ 2 = true_eq (b / 64) 2 (sym e ∙ h) in (omega arith, omega arith)
-
 pub long_byte : (b : ℕ) (t : Bool) → t ≡ eqb (b / 8) 0x1c → t ≡ true → (0xe0 ≤ b) × (b ≤ 0xe7)
 long_byte b t e h = let q : b / 8 ≡ 0x1c = true_eq (b / 8) 0x1c (sym e ∙ h) in (omega arith, omega arith)
 

@@ -1,22 +1,21 @@
 -- What the code finds at a size field is what its meaning says. Assumes nothing.
-use Prim.Native.Nat.{ℕ, suc, ◌+◌, ◌-◌, ◌*◌, ◌≤◌, ◌<◌, min}
+use Prim.Native.Nat.{ℕ, ◌+◌, ◌-◌, ◌*◌, ◌≤◌, ◌<◌, min}
 use mathlib.Core.Path.{◌≡◌, refl, sym, ap, ◌∙◌, subst}
 use mathlib.Core.Logic.{◌≢◌}
 use mathlib.Core.List.{List, [], ◌∷◌}
 use native.Mathlib.Omega.{arith}
 use native.Mathlib.Numerals.{add-one}
-use lib.ListN.{length, take, drop, get_or, length-drop}
-use lib.Seq.{get_or-drop}
+use lib.ListN.{length, take, drop, get_or}
+use Rattle.std.specs.Prelude.{Err}
 use Rattle.format.specs.Numbers.{val}
 use Rattle.format.specs.Refusals.{wants}
 use Rattle.format.specs.Objects.{Head, stop, past_end, cut, size, long_size, size_of, within, sized}
 use Rattle.format.proofs.Choices.{if_lt_yes, if_lt_no, if_eq_yes, if_eq_no, split}
 use Rattle.format.proofs.Digits.{val_take_suc}
 use Rattle.format.proofs.Faults.{wants_alike}
-use Rattle.wire.specs.declared.size.Extent.TheVariants.{Wanting}
 use Rattle.wire.specs.Extents.{extent_at, long_count, ExtentIs}
 
-pub extent_cut : (s : List ℕ) (k : ℕ) → size_of s ≡ cut k → ExtentIs s (Wanting k)
+pub extent_cut : (s : List ℕ) (k : ℕ) → size_of s ≡ cut k → ExtentIs s (Err k)
 unfolding sized within
 extent_cut s k e = λ d f. rw e refl
 
@@ -63,11 +62,6 @@ unfolding size_of long_count long_size
 size_long_cut [] k h g e l = absurd (omega arith)
 size_long_cut (b ∷ s) k h g e l = let j : length s < k = omega arith in rw (if_lt_no b 128, ← e, if_lt_yes (length s) k) (ap cut (omega arith))
 
--- one size byte more
-pub size_step : (s : List ℕ) (i n b k : ℕ) → i < k → 1 + k ≤ length s → n ≡ min (val (take i (drop 1 s))) 131072 → b ≡ get_or s (1 + i) 0
-    → (i + 1 ≤ k) × (min (n * 256 + b) 131072 ≡ min (val (take (i + 1) (drop 1 s))) 131072)
-size_step s i n b k hi hk en eb =
-    let h : i < length (drop 1 s) = simp length-drop (omega arith) in
-    let g : get_or (drop 1 s) i 0 ≡ b = get_or-drop 1 s i 0 ∙ sym eb in
-    let v : val (take (suc i) (drop 1 s)) ≡ val (take i (drop 1 s)) * 256 + get_or (drop 1 s) i 0 = val_take_suc (drop 1 s) i h in
-    rw add-one (omega arith, rw v (omega arith))
+-- one size byte more of those in p
+pub size_step : (p : List ℕ) (i n b : ℕ) → i < length p → n ≡ min (val (take i p)) 131072 → b ≡ get_or p i 0 → min (n * 256 + b) 131072 ≡ min (val (take (i + 1) p)) 131072
+size_step p i n b h en eb = rw (add-one i, val_take_suc p i h) (omega arith)

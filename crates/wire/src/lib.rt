@@ -4,7 +4,6 @@
 pub mod bits;
 pub mod head;
 pub mod integer;
-pub mod letters;
 pub mod padding;
 pub mod short;
 pub mod size;

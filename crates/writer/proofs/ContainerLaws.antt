@@ -1,5 +1,5 @@
 -- A container as it is written: its contents first, behind room for the fewest size bytes, then its head. Assumes nothing.
-use mathlib.Core.Path.{◌≡◌, refl, sym, ◌∙◌, ap}
+use mathlib.Core.Path.{◌≡◌, refl, sym, ◌∙◌, ap, ap₂}
 use mathlib.Core.List.{List, ◌∷◌, ◌++◌}
 use Prim.Native.Nat.{ℕ, ◌+◌, ◌-◌, ◌*◌, ◌≤◌}
 use native.Mathlib.Omega.{arith}
@@ -40,7 +40,7 @@ module _ (w : List ℕ) (p e d : ℕ) (o : List ℕ) (g : ℕ) (f : ContainerWri
       let k = length (normal (items_at w p e)) in
       let b = head_room w p e d (length o) g f eg k (length (normal_size k)) refl refl in
       let s = f.shallow in
-      record { run = f.run; shallow = omega arith; room = omega (arith, part_length (1 + g) o, b.least, b.room) }
+      record { run = f.run; within = f.within; shallow = omega arith; room = omega (arith, part_length (1 + g) o, b.least, b.room) }
 
   -- the contents come back in the part lent for them, are moved on, and get their head
   pub container_done : (kind b k h : ℕ) (ys t u : List ℕ) → k ≡ length (normal (items_at w p e)) → h ≡ length (normal_size k) → b ≡ head_byte kind →
@@ -59,20 +59,24 @@ module _ (w : List ℕ) (p e d : ℕ) (o : List ℕ) (g : ℕ) (f : ContainerWri
             ∙ ap (λ x. over (x ∷ (normal_size (length c) ++ c)) o) eb,
       )
 
--- a string as it is written
-pub record TextForm (w : List ℕ) (p : ℕ) : Type 0 where
-  pub is : normal (text_at w p) ≡ kept_bytes w (b_at w p) (8 * a_at w p)
-  pub kept : Kept w (b_at w p) (8 * a_at w p)
-  pub size : length (normal (text_at w p)) ≡ a_at w p
-  pub whole : 1 + length (with_size (normal (text_at w p))) ≡ 1 + length (normal_size (a_at w p)) + a_at w p
+-- ---- a string as it is written, by its row as the code reads it
+module _ (w : List ℕ) (p a b : ℕ) (ea : a ≡ a_at w p) (eb : b ≡ b_at w p) (t : TextAt w p) where
+  pub text_codes_kept : Kept w b (8 * a)
+  text_codes_kept = rw (ea, eb) (text_kept w p t).0
 
-pub text_form : (w : List ℕ) (p : ℕ) → TextAt w p → TextForm w p
-text_form w p h =
-    let k = text_kept w p h in
-    let e : length (normal (text_at w p)) ≡ a_at w p = string_size (text_at w p) h.row.chars ∙ sym h.row.a in
-    record {
-      is = string_normal (text_at w p) h.row.chars ∙ k.1;
-      kept = k.0;
-      size = e;
-      whole = container_length (text_at w p) ∙ ap (λ n. 1 + length (normal_size n) + n) e;
-    }
+  pub text_codes_few : 8 * a ≤ 1048576
+  text_codes_few = text_codes_kept.small
+
+  text_size : length (normal (text_at w p)) ≡ a
+  text_size = string_size (text_at w p) t.row.chars ∙ sym t.row.a ∙ sym ea
+
+  pub text_length_is : 1 + length (with_size (normal (text_at w p))) ≡ 1 + length (normal_size a) + a
+  text_length_is = container_length (text_at w p) ∙ ap (λ n. 1 + length (normal_size n) + n) text_size
+
+  pub text_form_is : 0xc5 ∷ with_size (normal (text_at w p)) ≡ (0xc5 ∷ normal_size a) ++ kept_bytes w b (8 * a)
+  unfolding with_size
+  text_form_is =
+      let k : normal (text_at w p) ≡ kept_bytes w b (8 * a) = string_normal (text_at w p) t.row.chars ∙ (text_kept w p t).1 ∙ ap₂ (λ x y. kept_bytes w y (8 * x)) (sym ea) (sym eb) in
+      ap₂ (λ n c. 0xc5 ∷ (normal_size n ++ c)) text_size k
+
+pub ruleset as_text = (text_codes_kept, text_codes_few, text_length_is)

@@ -1,6 +1,5 @@
 -- The laws, each file standing on those before it: numbers, leaves, lengths, the survey, writing, and the answers.
 pub mod NumberLaws
-pub mod Magnitudes
 pub mod LeafForms
 pub mod StringLaws
 pub mod WordLaws

@@ -1,12 +1,13 @@
 -- Numbers byte by byte from the low end, and the forms of sizes and integers with their lengths. Assumes nothing.
 use mathlib.Core.Path.{◌≡◌, refl, sym, ap, ap₂, ◌∙◌}
 use mathlib.Core.List.{List, [], ◌∷◌, ◌++◌, append_assoc, append-nil}
-use Prim.Native.Nat.{ℕ, zero, suc, ◌+◌, ◌-◌, ◌*◌, ◌/◌, ◌%◌, ◌^◌, ◌≤◌, ◌<◌}
+use Prim.Native.Nat.{ℕ, zero, suc, ◌+◌, ◌-◌, ◌*◌, ◌/◌, ◌%◌, ◌^◌, ◌≤◌, ◌<◌, min, max}
 use native.Mathlib.Nat.{pow-suc, mul_comm, div-div-eq-div-mul, div-one, mod-eq_of_lt, mod-lt}
 use native.Mathlib.Omega.{arith}
-use lib.ListN.{length, set}
+use lib.ListN.{length, set, take, drop}
 use lib.Pow as P
-use lib.Count.{count_leading_zeros, leading_top}
+use mir.Syntax.{w32, w64}
+use Rattle.std.specs.Int.{to_be_bytes, bytes_high_first, byte_at}
 use lib.IntN.{pos}
 use lib.Signed.{mag}
 use Rattle.format.specs.Numbers.{be, width, signed, twos}
@@ -15,12 +16,12 @@ use Rattle.format.specs.Lent.{over_at}
 use Rattle.format.specs.Normal.{linteger, normal_int, normal_size}
 use Rattle.format.proofs.Choices.{if_lt_yes, if_lt_no, if_eq_yes, if_eq_no, split, by_lt}
 use Rattle.format.proofs.SignedLaws.{to_pos, to_signed}
-use Rattle.format.proofs.Digits.{p256, pow_le, be_length, width_fits, width_least}
+use Rattle.format.proofs.Digits.{p256, pow_le, be_length, width_fits, width_least, width_one}
 use Rattle.format.proofs.Marker.{pow_bytes}
-use Rattle.format.proofs.Over.{at_last}
+use Rattle.format.proofs.Over.{at_last, at_front, set_at, lent_next}
 use Rattle.format.proofs.Sizes.{size_zero, size_small, size_large}
 
--- ---- the digits of a number from its low end
+-- ---- the low bytes of a number
 -- 256 ^ k as a power of two, for the laws of these
 low_low : (n k : ℕ) → n % 256 ^ suc k % 256 ≡ n % 256
 low_low n k =
@@ -69,19 +70,6 @@ low_head k n =
     ap₂ (λ u v. n % u / v ∷ be k (n % u % v)) e (sym (pow_bytes k)) ∙ ap₂ (λ x y. x ∷ be k y) (P.field n 8 (8 * k)) (P.mod-mod-pow n 8 (8 * k))
     ∙ ap (λ v. n / 2 ^ (8 * k) % 256 ∷ be k (n % v)) (pow_bytes k)
 
-pub low_four : (n : ℕ) → be 4 (n % 256 ^ 4) ≡ n / 2 ^ 24 % 256 ∷ n / 2 ^ 16 % 256 ∷ n / 2 ^ 8 % 256 ∷ n % 256 ∷ []
-unfolding be
-low_four n =
-    low_head 3 n ∙ ap (λ l. n / 2 ^ 24 % 256 ∷ l) (low_head 2 n ∙ ap (λ l. n / 2 ^ 16 % 256 ∷ l) (low_head 1 n ∙ ap (λ l. n / 2 ^ 8 % 256 ∷ l) (low_snoc 0 n)))
-
-pub word_eight : (n : ℕ) → n < 2 ^ 64 → be 8 n ≡ n / 2 ^ 56 ∷ n / 2 ^ 48 % 256 ∷ n / 2 ^ 40 % 256 ∷ n / 2 ^ 32 % 256 ∷ n / 2 ^ 24 % 256 ∷ n / 2 ^ 16 % 256 ∷ n / 2 ^ 8 % 256 ∷ n % 256 ∷ []
-word_eight n h =
-    let top : n / 2 ^ 56 % 256 ≡ n / 2 ^ 56 = mod-eq_of_lt (P.shr_lt 8 56 h) in
-    ap (be 8) (sym (mod-eq_of_lt {n = n} {m = 256 ^ 8} (omega arith)))
-    ∙ low_head 7 n ∙ ap (λ l. n / 2 ^ 56 % 256 ∷ l) (low_head 6 n ∙ ap (λ l. n / 2 ^ 48 % 256 ∷ l)
-    (low_head 5 n ∙ ap (λ l. n / 2 ^ 40 % 256 ∷ l) (low_head 4 n ∙ ap (λ l. n / 2 ^ 32 % 256 ∷ l) (low_four n))))
-    ∙ ap (λ x. x ∷ n / 2 ^ 48 % 256 ∷ n / 2 ^ 40 % 256 ∷ n / 2 ^ 32 % 256 ∷ n / 2 ^ 24 % 256 ∷ n / 2 ^ 16 % 256 ∷ n / 2 ^ 8 % 256 ∷ n % 256 ∷ []) top
-
 -- one byte more, from the low end: the step of the loop that writes them
 pub low_turn : (k n i x : ℕ) (t out : List ℕ) → 0 < i → i ≤ length out → over (be k (n % 256 ^ k)) t ≡ over (be i (x % 256 ^ i)) out →
     over (be k (n % 256 ^ k)) t ≡ over (be (i - 1) (x / 256 % 256 ^ (i - 1))) (set out (i - 1) (x % 256))
@@ -93,6 +81,43 @@ low_turn k n (suc i) x t out p l e =
     let z : 0 + length y ≡ i = omega (arith, be_length i (x / 256 % 256 ^ i)) in
     rw q (e ∙ ap (λ b. over b out) (low_snoc i x) ∙ at_last 0 (x % 256) y out (omega arith) ∙ ap (λ j. over y (set out j (x % 256))) z)
 
+-- as the library has them
+pub low_bytes : (k n : ℕ) → bytes_high_first k n ≡ be k (n % 256 ^ k)
+unfolding be
+low_bytes zero n = refl
+low_bytes (suc k) n = ap₂ ◌∷◌ (byte_is k n) (low_bytes k n) ∙ sym (low_head k n)
+  where
+    byte_is : (k n : ℕ) → byte_at k n ≡ n / 2 ^ (8 * k) % 256
+    byte_is zero n = let e : 8 * 0 ≡ 0 = omega arith in sym (ap (λ z. n / 2 ^ z % 256) e ∙ ap (λ z. z % 256) (div-one n))
+    byte_is (suc k) n = ap (λ z. n / z % 256) (sym (pow_bytes (suc k)))
+
+-- the first four of k low bytes, as the library has them, and the others behind them
+pub four_put : (n m : ℕ) (zs ys t : List ℕ) → m ≡ n % 2 ^ 32 → zs ≡ to_be_bytes w32 m → ys ≡ zs → ys ++ drop 4 t ≡ over (be 4 (n % 256 ^ 4)) t
+unfolding over
+four_put n m zs ys t q z e =
+    let y : ys ≡ be 4 (n % 256 ^ 4) =
+    e ∙ z ∙ low_bytes 4 m ∙ ap (λ x. be 4 (x % 256 ^ 4)) q ∙ ap (be 4) (mod-eq_of_lt (mod-lt n (p256 4))) in
+    ap₂ (λ a i. a ++ drop i t) y (sym (be_length 4 (n % 256 ^ 4)))
+
+pub word_put : (n : ℕ) (zs ys t : List ℕ) → n < 2 ^ 64 → zs ≡ to_be_bytes w64 n → ys ≡ zs → ys ++ drop 8 t ≡ over (be 8 n) t
+unfolding over
+word_put n zs ys t h z e =
+    let y : ys ≡ be 8 n = e ∙ z ∙ low_bytes 8 n ∙ ap (be 8) (mod-eq_of_lt {n = n} {m = 256 ^ 8} (omega arith)) in
+    ap₂ (λ a i. a ++ drop i t) y (sym (be_length 8 n))
+
+-- ---- the front of an output
+pub byte_front : (b : ℕ) (t : List ℕ) → 0 < length t → set t 0 b ≡ over (b ∷ []) t
+byte_front b t h = set_at 0 b t h ∙ at_front (b ∷ []) t
+
+pub two_front : (ys t : List ℕ) (a b : ℕ) → ys ≡ a ∷ b ∷ [] → ys ++ drop 2 t ≡ over (a ∷ b ∷ []) t
+unfolding over
+two_front ys t a b e = ap (λ z. z ++ drop 2 t) e
+
+-- a byte, and the bytes behind it in the part that was lent for them
+pub byte_then : (b : ℕ) (m t ys : List ℕ) → 0 < length t → ys ≡ over m (take (length (set t 0 b) - 1) (drop 1 (set t 0 b))) →
+    take 1 (set t 0 b) ++ (ys ++ drop (length (set t 0 b) - 1) (drop 1 (set t 0 b))) ≡ over (b ∷ m) t
+byte_then b m t ys h e = lent_next (b ∷ []) m t (set t 0 b) ys 1 refl (byte_front b t h) e
+
 -- ---- the fewest bytes, by the highest bit
 pub width_log : (n v : ℕ) → 2 ^ n ≤ v → v < 2 ^ suc n → width v ≡ 1 + n / 8
 width_log n v g l =
@@ -103,22 +128,23 @@ width_log n v g l =
     let b : q < width v = split q (width v) (λ h. h) (λ h. absurd (omega (arith, width_fits v, pow_le {i = width v} {j = q} h))) in
     omega arith
 
--- as the code finds it, from the zeros above that bit
-pub width_zeros : (n : ℕ) → 256 ≤ n → n < 2 ^ 64 → (count_leading_zeros 64 n ≤ 63) × ((71 - count_leading_zeros 64 n) / 8 ≡ width n) × (width n ≤ 8)
-width_zeros n g h =
-    let t = leading_top 64 n (omega arith) h in
-    let a : count_leading_zeros 64 n + suc t.0 ≡ 64 = t.1 in
-    let w = width_log t.0 n t.2 t.3 in
-    (omega arith, omega arith, omega arith)
+-- as the code finds it
+pub width_found : (n r : ℕ) → 2 ^ r ≤ max n 1 → max n 1 < 2 * 2 ^ r → 1 + r / 8 ≡ width n
+width_found n r g l =
+    split n 1 (λ z. let e : max n 1 ≡ 1 = omega arith in let q : r ≡ 0 = split r 1 (λ s. omega arith) (λ s. omega (arith, P.pow_mono {i = 1} {j = r} s)) in omega (arith, width_one n (omega arith)))
+    (λ z. sym (width_log r n (omega arith) (omega (arith, pow-suc 2 r))))
+
+pub width_most : (n : ℕ) → n < 2 ^ 64 → width n ≤ 8
+width_most n h = width_least n 8 (omega arith) (omega arith)
 
 -- ---- the forms of a size
 pub size_0 : (n : ℕ) → n ≡ 0 → normal_size n ≡ 0x81 ∷ 0 ∷ []
 unfolding normal_size
 size_0 n e = rw (if_eq_yes n 0 _ _ e)
 
-pub size_1 : (n : ℕ) → (n ≡ 0 → ⊥) → n < 128 → normal_size n ≡ n ∷ []
+pub size_1 : (n : ℕ) → 0 < n → n < 128 → normal_size n ≡ n ∷ []
 unfolding normal_size
-size_1 n e l = rw (if_eq_no n 0 _ _ e, if_lt_yes n 128 _ _ l)
+size_1 n h l = rw (if_eq_no n 0 _ _ (λ z. omega arith), if_lt_yes n 128 _ _ l)
 
 pub size_128 : (n : ℕ) → n ≡ 128 → normal_size n ≡ 0 ∷ []
 unfolding normal_size
@@ -180,3 +206,15 @@ int_length_large v k g l e h = ap length (int_bytes v k g l e h) ∙ omega (arit
 
 pub size_bytes : (n k : ℕ) → 128 < n → k ≡ width n → normal_size n ≡ (0x80 + k) ∷ be k (n % 256 ^ k)
 size_bytes n k g e = size_long n g ∙ rw e (rw (mod-eq_of_lt (width_fits n)) refl)
+
+-- the magnitude of a word's signed number
+pub magnitude : (v : ℕ) → v < 2 ^ 64 → mag (signed 8 v) ≡ min v (2 ^ 64 - 1 - v)
+unfolding signed
+magnitude v h = by_lt (λ z. mag z ≡ min v (2 ^ 64 - 1 - v)) (2 * v) (256 ^ 8) (λ l. omega arith) (λ l. omega arith)
+
+pub size_length_0 : (n : ℕ) → n ≡ 0 → length (normal_size n) ≡ 2
+size_length_0 n e = rw e size_zero
+
+pub ruleset sizes = (size_length_0, size_small, size_large, width_found, width_most, size_0, size_1, size_128, size_bytes, byte_front, two_front)
+
+pub ruleset integers = (int_small, int_bytes, int_length_small, int_length_large, byte_front)

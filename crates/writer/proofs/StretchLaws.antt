@@ -3,7 +3,7 @@ use mathlib.Core.Path.{◌≡◌, refl, sym, ap, ◌∙◌, subst}
 use mathlib.Core.List.{List, [], ◌∷◌, ◌++◌}
 use Prim.Native.Nat.{ℕ, zero, suc, ◌+◌, ◌-◌, ◌<◌, ◌≤◌}
 use native.Mathlib.Omega.{arith}
-use lib.ListN.{length, set, length-set}
+use lib.ListN.{length, take, drop, set, length-set}
 use Rattle.format.specs.Normal.{normal_leaf, normal, depth}
 use Rattle.format.proofs.Choices.{split, if_eq_yes}
 use Rattle.format.proofs.ItemLaws.{rows_least}
@@ -13,8 +13,8 @@ use Rattle.writer.proofs.NumberLaws.{int_small}
 use Rattle.table.proofs.RowData.{int_at_lem, plain_code}
 use Rattle.writer.proofs.LeafForms.{plain_form}
 use Rattle.table.proofs.RunLaws.{leaf_step, leaf_depth}
-use Rattle.format.specs.Lent.{over_at}
-use Rattle.format.proofs.Over.{at_none, set_next}
+use Rattle.format.specs.Answers.{over}
+use Rattle.format.proofs.Over.{at_front, set_next, back_length, lent}
 use Rattle.writer.proofs.WriteLaws.{leaf_normal, Going, going_on}
 
 -- ---- the bytes of a stretch
@@ -30,53 +30,69 @@ codes_snoc (suc k) p low w =
     let z : p + 1 + k ≡ p + suc k = omega arith in
     ap (λ l. (low + b_at w p) ∷ l) (codes_snoc k (p + 1) low w ∙ ap (λ i. codes_from w low (p + 1) k ++ ((low + b_at w i) ∷ [])) z)
 
--- ---- as they are written from n on
+-- ---- as they are written over the front of an output
 -- the rows p up to q are of a kind, and their bytes stand
-pub record Strung (w : List ℕ) (kind most low p n : ℕ) (old out : List ℕ) (q : ℕ) : Type 0 where
+pub record Strung (w : List ℕ) (kind most low p : ℕ) (old out : List ℕ) (q : ℕ) : Type 0 where
   pub start : p ≤ q
   pub same : length out ≡ length old
   pub each : (i : ℕ) → p ≤ i → i < q → (kind_at w i ≡ kind) × (b_at w i < most)
-  pub written : out ≡ over_at n (codes_from w low p (q - p)) old
+  pub written : out ≡ over (codes_from w low p (q - p)) old
 
-module _ (w : List ℕ) (kind most low p n : ℕ) (old : List ℕ) where
-  pub strung_starts : Strung w kind most low p n old old p
-  unfolding codes_from
+module _ (w : List ℕ) (kind most low p : ℕ) (old : List ℕ) where
+  pub strung_starts : Strung w kind most low p old old p
+  unfolding codes_from over
   strung_starts =
       let z : p - p ≡ 0 = omega arith in
       record {
         start = omega arith;
         same = refl;
         each = λ i a b. absurd (omega arith);
-        written = rw z (sym (at_none n old));
+        written = rw z refl;
       }
 
-  pub strung_on : (out : List ℕ) (q : ℕ) → Strung w kind most low p n old out q → kind_at w q ≡ kind → b_at w q < most → n + (q - p) < length old →
-      Strung w kind most low p n old (set out (n + (q - p)) (low + b_at w q)) (q + 1)
-  strung_on out q s k b h =
+  pub strung_on : (out : List ℕ) (q k b : ℕ) → Strung w kind most low p old out q → k ≡ kind_at w q → b ≡ b_at w q → k ≡ kind → b < most → q - p < length old →
+      Strung w kind most low p old (set out (q - p) (low + b)) (q + 1)
+  strung_on out q k b s ek eb is low_b h =
       let a = s.start in
       let l = codes_from w low p (q - p) in
       let m = codes_length (q - p) p low w in
+      let z : q - p ≡ 0 + length l = omega arith in
       let e : p + (q - p) ≡ q = omega arith in
       let f : suc (q - p) ≡ q + 1 - p = omega arith in
-      let g : l ++ ((low + b_at w q) ∷ []) ≡ codes_from w low p (q + 1 - p) =
-      ap (λ i. l ++ ((low + b_at w i) ∷ [])) (sym e) ∙ sym (codes_snoc (q - p) p low w) ∙ ap (codes_from w low p) f in
+      let g : l ++ ((low + b) ∷ []) ≡ codes_from w low p (q + 1 - p) =
+      ap (λ i. l ++ ((low + i) ∷ [])) (eb ∙ ap (b_at w) (sym e)) ∙ sym (codes_snoc (q - p) p low w) ∙ ap (codes_from w low p) f in
+      let r : kind_at w q ≡ kind = omega arith in
       record {
         start = omega arith;
-        same = length-set out (n + (q - p)) (low + b_at w q) ∙ s.same;
-        each = λ i x y. split i q (λ lt. s.each i x lt) (λ ge. let z : q ≡ i = omega arith in subst (λ (j : ℕ). (kind_at w j ≡ kind) × (b_at w j < most)) z (k, b));
-        written = ap (λ i. set out (n + i) (low + b_at w q)) (sym m) ∙ set_next n (low + b_at w q) l old out s.written (omega arith) ∙ ap (λ x. over_at n x old) g;
+        same = length-set out (q - p) (low + b) ∙ s.same;
+        each = λ i x y. split i q (λ lt. s.each i x lt) (λ ge. let z : q ≡ i = omega arith in subst (λ (j : ℕ). (kind_at w j ≡ kind) × (b_at w j < most)) z (r, omega arith));
+        written = ap (λ i. set out i (low + b)) z ∙ set_next 0 (low + b) l old out (s.written ∙ sym (at_front l old)) (omega arith) ∙ at_front (l ++ ((low + b) ∷ [])) old
+            ∙ ap (λ x. over x old) g;
       }
 
   -- it ends at q, where the row q is not of the kind, or nothing is left
-  pub strung_ends : (out : List ℕ) (to q : ℕ) → Strung w kind most low p n old out q → q ≤ to → (q < to → kind_at w q ≡ kind → b_at w q < most → ⊥) → Alike w kind most p to q
+  strung_ends : (out : List ℕ) (to q : ℕ) → Strung w kind most low p old out q → q ≤ to → (q < to → kind_at w q ≡ kind → b_at w q < most → ⊥) → Alike w kind most p to (p + (q - p))
   strung_ends out to q s h stop =
       let a = s.start in
-      record {
+      let z : q ≡ p + (q - p) = omega arith in
+      subst (λ (j : ℕ). Alike w kind most p to j) z
+      (record {
         start = a;
         within = h;
         each = s.each;
         moves = λ l k b. split p q (λ lt. lt) (λ ge. let z : p ≡ q = omega arith in absurd (stop (rw z at l) (rw z at k) (rw z at b)));
-      }
+      })
+
+  pub strung_all : (out : List ℕ) (to q : ℕ) → Strung w kind most low p old out q → q ≡ to → Alike w kind most p to (p + (q - p))
+  strung_all out to q s h = strung_ends out to q s (omega arith) (λ l k b. omega arith)
+
+  pub strung_kind : (out : List ℕ) (to q k : ℕ) → Strung w kind most low p old out q → q ≤ to → k ≡ kind_at w q → (k ≡ kind → ⊥) → Alike w kind most p to (p + (q - p))
+  strung_kind out to q k s h ek n = strung_ends out to q s h (λ l i b. n (ek ∙ i))
+
+  pub strung_bound : (out : List ℕ) (to q b : ℕ) → Strung w kind most low p old out q → q ≤ to → b ≡ b_at w q → most ≤ b → Alike w kind most p to (p + (q - p))
+  strung_bound out to q b s h eb n = strung_ends out to q s h (λ l i m. omega arith)
+
+pub ruleset stringing = (strung_starts, strung_on, strung_all, strung_kind, strung_bound)
 
 -- ---- what they are
 -- the items of a kind whose last word is below `most` take the byte `low` and that word added
@@ -138,13 +154,12 @@ module _ {w : List ℕ} {from to d : ℕ} {old out : List ℕ} {p n : ℕ} (s : 
       let c = s.same in
       omega (arith, rows_least (items_at w p to), s.run.stands.number)
 
-  pub going_singles : (kind most low q : ℕ) (after : List ℕ) → ItemByte w kind most low → Alike w kind most p to q → length after ≡ length out →
-      after ≡ over_at n (codes_from w low p (q - p)) out → Going w from to d old after q (n + (q - p))
-  going_singles kind most low q after o a l e =
-      let x = a.start in
+  -- they come back in the part that was lent for them
+  pub going_singles : (kind most low k : ℕ) (ys : List ℕ) → ItemByte w kind most low → Alike w kind most p to (p + k) → length ys ≡ length (take (length out - n) (drop n out)) →
+      ys ≡ over (codes_from w low p k) (take (length out - n) (drop n out)) → Going w from to d old (take n out ++ (ys ++ drop (length out - n) (drop n out))) (p + k) (n + k)
+  going_singles kind most low k ys o a l e =
       let y = a.within in
-      let z : p + (q - p) ≡ q = omega arith in
-      let f = behind (q - p) p w kind most low to o s.run (omega arith) (λ i u v. a.each i u (omega arith)) in
+      let r = going_rows in
+      let f = behind k p w kind most low to o s.run y (λ i u v. a.each i u v) in
       let g = s.shallow in
-      going_on s (codes_from w low p (q - p)) after q (q - p) (f.is ∙ ap (λ i. codes_from w low p (q - p) ++ normal (items_at w i to)) z)
-      y (rw z at f.run) (omega (arith, f.flat ∙ ap (λ i. depth (items_at w i to)) z)) l e (sym (codes_length (q - p) p low w))
+      going_on s (codes_from w low p k) _ (p + k) k f.is y f.run (omega (arith, f.flat)) (back_length n out ys (omega arith) l) (lent n (codes_from w low p k) out ys e) (sym (codes_length k p low w))

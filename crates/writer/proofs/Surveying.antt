@@ -1,13 +1,12 @@
 -- What the survey finds at each of its turns: rows without elements, containers, and what a run is when it ends. Assumes nothing.
 use mathlib.Core.Path.{◌≡◌, refl, sym, ◌∙◌, ap, subst}
 use mathlib.Core.List.{List}
-use mathlib.Core.Bool.{true, false}
+use mathlib.Core.Bool.{Bool, true, false}
+use Rattle.std.specs.Bool.{then_some}
 use Prim.Native.Nat.{ℕ, zero, suc, ◌+◌, ◌-◌, ◌*◌, ◌/◌, ◌^◌, ◌<◌, ◌≤◌}
 use native.Mathlib.Omega.{arith}
 use lib.ListN.{length, get_or}
 use lib.Dec.{ltb}
-use mir.Syntax.{w64}
-use mir.Val.{Fits}
 use lib.Bits.{bit_or, bit_xor, xor_self}
 use native.Mathlib.Nat.{div-lt_iff_lt-mul}
 use Rattle.format.specs.Numbers.{signed}
@@ -15,21 +14,25 @@ use Rattle.format.specs.Bits.{words_for}
 use Rattle.format.specs.Items.{Leaf, Items}
 use Rattle.format.specs.Tables.{count}
 use Rattle.format.specs.Normal.{normal_size, normal_int, normal_leaf}
-use Rattle.format.proofs.Choices.{split, split_eq, lt_true, lt_false, clash}
+use Rattle.format.proofs.Choices.{split, split_eq, lt_true, lt_false, true_lt, clash}
 use Rattle.format.proofs.OrLaws.{or_none, or_zeros, xor_none}
-use Rattle.table.specs.Rows.{kind_at, a_at, b_at, rows_of, words_of, Headed, LeafRow, LeafAt}
-use Rattle.table.specs.InOrder.{values, plain_ok, bits_ok, text_ok, kind_ok}
+use Rattle.table.specs.Rows.{kind_at, a_at, b_at, next_row, rows_of, words_of, Headed, LeafRow, LeafAt}
+use Rattle.table.specs.InOrder.{values, plain_ok, bits_ok, text_ok, kind_fits, kind_ok}
 use Rattle.writer.specs.Forms.{bits_length}
-use Rattle.writer.specs.declared.survey.Surveyed.TheVariants.{Whole}
-use Rattle.writer.specs.declared.survey.Leaves.TheVariants.{Right}
-use Rattle.writer.specs.Surveys.{Small, SmallRows, RowsPlaced, NoItems, TooDeep, RowsPassed, LeavesSurveyed, ContainerSurveyed}
+use Rattle.std.specs.Prelude.{Option as Maybe, Some, Result as Outcome, Ok}
+use Rattle.writer.specs.declared.survey.Unfit.{Unfit}
+use Rattle.writer.specs.declared.survey.Unfit.TheVariants.{Wrong, Deep}
+use Rattle.writer.specs.declared.survey.Leaves.{Leaves}
+use Rattle.writer.specs.declared.survey.Surveyed.{Surveyed}
+use Rattle.writer.specs.declared.place.Place.{Place}
+use Rattle.writer.specs.Surveys.{Small, SmallRows, RowsPlaced, NoItems, TooDeep, RowsPassed, LeavesSurveyed, Unsurveyed, ContainerSurveyed}
 use Rattle.writer.proofs.NumberLaws.{int_length_small}
 use Rattle.table.proofs.RowLaws.{plain_a, plain_values, plain_int, data_none, data_bits, data_text, single_text, single_not, next_one, next_more, text_long}
 use Rattle.table.proofs.KindLaws.{string_is, edt_is}
 use Rattle.table.proofs.Standing.{leaf_is}
 use Rattle.table.proofs.LeafRows.{LeafFound, plain_leaf, plain_found, bits_found, leaf_ok, text_found, text_ok_lem}
 use Rattle.table.proofs.RowData.{int_at_lem, bits_at}
-use Rattle.writer.proofs.LeafForms.{bits_length_is, plain_form}
+use Rattle.writer.proofs.LeafForms.{bits_length_is, row_form, plain_form}
 use Rattle.table.proofs.Judging.{kind_true, kind_right}
 use Rattle.writer.proofs.Passing.{passed_none, passed_join, passed_deeper, passed_leaf, no_leaf, passed_text, no_text, some_depth, Inside, inside, Alone, alone, alone_is, passed_container}
 
@@ -53,6 +56,8 @@ small_row w k m q h s =
     let l = s.low in
     let z : b_at w q / m < 1 = (div-lt_iff_lt-mul h).1 (omega arith) in
     or_zeros (bit_or (bit_xor (kind_at w q) k) (a_at w q)) (b_at w q / m) (or_zeros (bit_xor (kind_at w q) k) (a_at w q) (ap (λ i. bit_xor i k) s.kind ∙ xor_self k) s.none) (omega arith)
+
+pub ruleset smallness = (row_small, small_row)
 
 -- a CHAR or an INT of one byte
 char_ok : (w : List ℕ) (p : ℕ) → Small w 3 128 p → plain_ok (kind_at w p) (a_at w p) (b_at w p) ≡ true
@@ -96,6 +101,8 @@ module _ (w : List ℕ) (k m p e : ℕ) where
   small_some : (q : ℕ) → SmallRows w k m p e q → (q < e → Small w k m q → ⊥) → p < e → Small w k m p → p < q
   small_some q s f l o = let a = s.start in split p q (λ h. h) (λ g. absurd (small_stops q f l (omega arith) o))
 
+pub ruleset alike = (small_starts, small_on, small_fours, four_none)
+
 -- ---- where the survey stands
 -- at the row p, before e, of a table with a header in order, where u data words come before
 pub record Survey (w : List ℕ) (u p e : ℕ) : Type 0 where
@@ -106,8 +113,15 @@ pub record Survey (w : List ℕ) (u p e : ℕ) : Type 0 where
   pub fits : u ≤ words_of w
 
 -- as the code is told it
-pub survey_at : (w : List ℕ) (u p e : ℕ) → Headed w → (p < e) × (e ≤ rows_of w) × (u ≤ words_of w) → ((i : ℕ) → Fits w64 (get_or w i 0)) → Survey w u p e
-survey_at w u p e h q b = record { header = h; bound = λ i. (b i).fits; some = q.0; within = q.1; fits = q.2 }
+pub survey_at : (at : Place) → Survey at.table.words.now at.base at.p at.to
+survey_at at = record { header = at.table.in_order; bound = at.table.in_range; some = at.some; within = at.within; fits = at.fits }
+
+-- the code's answers
+abbrev pub leaves : ℕ → ℕ → ℕ → Maybe Leaves
+leaves n q v = Some (record { bytes = n; next = q; base = v })
+
+abbrev pub whole : ℕ → ℕ → ℕ → Outcome Surveyed Unfit
+whole n c v = Ok (record { bytes = n; items = c; base = v })
 
 -- ---- rows without elements
 module _ {w : List ℕ} {u p e : ℕ} (s : Survey w u p e) where
@@ -133,24 +147,25 @@ module _ {w : List ℕ} {u p e : ℕ} (s : Survey w u p e) where
       (e ∙ sym (ap (λ i. length (normal_leaf i)) (sym (leaf_is w u p p f.item f.row) ∙ int_at_lem w p k)))
 
   -- the answer for one row
-  one_row : (v n : ℕ) → RowsPassed w (words_of w) 0 u p v (p + 1) 1 n → LeavesSurveyed w (words_of w) u p e (Right n (p + 1) v)
+  one_row : (v n : ℕ) → RowsPassed w (words_of w) 0 u p v (p + 1) 1 n → LeavesSurveyed w u p e (leaves n (p + 1) v)
   one_row v n f = let e : p + 1 - p ≡ 1 = omega arith in (omega arith, omega arith, rw e f)
 
-  pub plain_passed : kind_at w p < 7 → (kind_at w p ≡ 1 → ⊥) → (kind_at w p ≡ 2 → ⊥) → plain_ok (kind_at w p) (a_at w p) (b_at w p) ≡ true → LeavesSurveyed w (words_of w) u p e (Right 1 (p + 1) u)
+  pub plain_passed : kind_at w p < 7 → (kind_at w p ≡ 1 → ⊥) → (kind_at w p ≡ 2 → ⊥) → plain_ok (kind_at w p) (a_at w p) (b_at w p) ≡ true → LeavesSurveyed w u p e (leaves 1 (p + 1) u)
   plain_passed y j k t = one_row u 1 (plain_row y j k t)
 
-  pub int_passed : (n : ℕ) → kind_at w p ≡ 1 → a_at w p ≡ 0 → n ≡ length (normal_int (signed 8 (b_at w p))) → LeavesSurveyed w (words_of w) u p e (Right n (p + 1) u)
+  pub int_passed : (n : ℕ) → kind_at w p ≡ 1 → a_at w p ≡ 0 → n ≡ length (normal_int (signed 8 (b_at w p))) → LeavesSurveyed w u p e (leaves n (p + 1) u)
   int_passed n k a q = one_row u n (int_row n k a q)
 
   pub bits_passed : (r n : ℕ) → kind_at w p ≡ 2 → (bits_ok w u (a_at w p) (b_at w p) ≡ true) × (u + r ≤ words_of w) × (r ≡ words_for (a_at w p)) → n ≡ bits_length (a_at w p) →
-      LeavesSurveyed w (words_of w) u p e (Right n (p + 1) (u + r))
+      LeavesSurveyed w u p e (leaves n (p + 1) (u + r))
   bits_passed r n k j q =
       let f = bits_found w u s.header.within s.header.little s.fits p row_in k j.0 s.bound in
       let i = leaf_is w u p p f.item f.row in
       let at : LeafAt w p = record { before = u; row = subst (λ (x : Leaf). LeafRow w u p x) (sym i) f.row } in
       one_row (u + r) n
       (passed_leaf w (words_of w) u p f.item (u + r) n f.row (omega (arith, f.takes, data_bits w p k, j.2)) j.1
-      (q ∙ bits_length_is w p (bits_at w p at k) ∙ ap (λ x. length (normal_leaf x)) i))
+      (let row = bits_at w p at k in
+      q ∙ bits_length_is w (b_at w p) (a_at w p) row.kept ∙ sym (ap length (row_form w p row)) ∙ ap (λ x. length (normal_leaf x)) i))
 
   pub no_plain : kind_at w p < 7 → (kind_at w p ≡ 2 → ⊥) → plain_ok (kind_at w p) (a_at w p) (b_at w p) ≡ false → NoItems w (words_of w) u p e
   no_plain y k t = no_leaf w (words_of w) u p e s.some y (λ x r f. clash _ ((leaf_ok w u s.header.within s.header.little s.fits p x r f).plain k) t)
@@ -179,11 +194,11 @@ module _ {w : List ℕ} {u p e : ℕ} (s : Survey w u p e) (q : ℕ) where
   further : (i : ℕ) → i < e → Survey w u i e
   further i h = record { header = s.header; bound = s.bound; some = h; within = s.within; fits = s.fits }
 
-  stretch : p < q → q ≤ e → ((i : ℕ) → p ≤ i → i < q → RowsPassed w (words_of w) 0 u i u (i + 1) 1 1) → LeavesSurveyed w (words_of w) u p e (Right (q - p) q u)
+  stretch : p < q → q ≤ e → ((i : ℕ) → p ≤ i → i < q → RowsPassed w (words_of w) 0 u i u (i + 1) 1 1) → LeavesSurveyed w u p e (leaves (q - p) q u)
   stretch l m f =
       (l, m, same w (words_of w) u p (p + (q - p)) q (q - p) (q - p) (omega arith) refl (many w (words_of w) u p s.fits (q - p) (λ i x y. f i x (omega arith))))
 
-  pub chars_passed : SmallRows w 3 128 p e q → (q ≡ p → ⊥) → LeavesSurveyed w (words_of w) u p e (Right (q - p) q u)
+  pub chars_passed : SmallRows w 3 128 p e q → (q ≡ p → ⊥) → LeavesSurveyed w u p e (leaves (q - p) q u)
   chars_passed r n =
       let a = r.start in
       let b = r.within in
@@ -193,13 +208,30 @@ module _ {w : List ℕ} {u p e : ℕ} (s : Survey w u p e) (q : ℕ) where
       let k = o.kind in
       plain_row (further i (omega arith)) (omega arith) (λ z. omega arith) (λ z. omega arith) (char_ok w i o))
 
-  pub ints_passed : SmallRows w 1 64 p e q → (q < e → Small w 1 64 q → ⊥) → Small w 1 64 p → LeavesSurveyed w (words_of w) u p e (Right (q - p) q u)
+  pub ints_passed : SmallRows w 1 64 p e q → (q < e → Small w 1 64 q → ⊥) → Small w 1 64 p → LeavesSurveyed w u p e (leaves (q - p) q u)
   ints_passed r n f =
       let b = r.within in
       stretch (small_some w 1 64 p e q r n s.some f) b
       (λ i x y.
       let o = r.each i x y in
       int_row (further i (omega arith)) 1 o.kind o.none (sym (int_length_small (b_at w i) o.low)))
+
+  -- as the code tells them: the items of a byte that it finds, if there are some
+  false_le : (a b : ℕ) → ltb a b ≡ false → b ≤ a
+  false_le a b e = split a b (λ l. clash (ltb a b) (lt_true a b l) e) (λ g. g)
+
+  pub chars_told : SmallRows w 3 128 p e q → (q < e → Small w 3 128 q → ⊥) → kind_at w p ≡ 3 → LeavesSurveyed w u p e (then_some (ltb p q) (record { bytes = q - p; next = q; base = u }))
+  chars_told r f k = go (ltb p q) refl
+    where
+      go : (b : Bool) → ltb p q ≡ b → LeavesSurveyed w u p e (then_some b (record { bytes = q - p; next = q; base = u }))
+      go true t = chars_passed r (λ z. omega (arith, true_lt p q t))
+      go false t = no_char s k (small_stops w 3 128 p e q f s.some (let a = r.start in omega (arith, false_le p q t)))
+
+-- a row of one number
+module _ {w : List ℕ} {u p e : ℕ} (s : Survey w u p e) where
+  pub plain_told : (b : Bool) → kind_at w p < 7 → (kind_at w p ≡ 1 → ⊥) → (kind_at w p ≡ 2 → ⊥) → b ≡ plain_ok (kind_at w p) (a_at w p) (b_at w p) → LeavesSurveyed w u p e (then_some b (record { bytes = 1; next = p + 1; base = u }))
+  plain_told true k n1 n2 t = plain_passed s k n1 n2 (sym t)
+  plain_told false k n1 n2 t = no_plain s k n2 (sym t)
 
 -- ---- a string
 module _ {w : List ℕ} {u p e : ℕ} (s : Survey w u p e) (k : kind_at w p ≡ 9) where
@@ -210,7 +242,7 @@ module _ {w : List ℕ} {u p e : ℕ} (s : Survey w u p e) (k : kind_at w p ≡ 
   text_wrong t = no_text w (words_of w) u p e s.some k (λ c r f. clash _ (text_ok_lem w u s.header.within s.header.little s.fits p c r f).0 t)
 
   pub text_whole : (d r z : ℕ) → (d ≡ 0 → ⊥) → (text_ok w u (a_at w p) (b_at w p) ≡ true) × (u + r ≤ words_of w) × (r ≡ words_for (8 * a_at w p)) → z ≡ length (normal_size (a_at w p)) →
-      ContainerSurveyed w (words_of w) d u p e (Whole (1 + z + a_at w p) 1 (u + r))
+      ContainerSurveyed w d u p e (whole (1 + z + a_at w p) 1 (u + r))
   text_whole d r z g j n =
       let f = text_found w u s.header.within s.header.little s.fits p (row_in s) k j.0 s.bound in
       let i = next_one w p (single_text (kind_at w p) k) in
@@ -226,6 +258,11 @@ module _ {w : List ℕ} {u p e : ℕ} (s : Survey w u p e) (k : kind_at w p ≡ 
   pub text_small : text_ok w u (a_at w p) (b_at w p) ≡ true → a_at w p ≤ 131072
   text_small t = split 131072 (a_at w p) (λ q. clash _ t (text_long w u (a_at w p) (b_at w p) s.header.little q)) (λ q. q)
 
+-- its kind and its elements, as the code asks for them
+pub kind_told : (w : List ℕ) (p e k : ℕ) (v : List ℕ) (i j : ℕ) (r : Bool) → k ≡ kind_at w p → v ≡ w → i ≡ p + 1 → j ≡ e → r ≡ kind_fits k v i j → kind_ok w p e ≡ r
+unfolding kind_ok
+kind_told w p e k v i j r ek ev ei ej er = sym (er ∙ rw (ek, ev, ei, ej) refl)
+
 -- ---- a container that is no string
 -- its row p, before e
 pub record SurveyedGroup (w : List ℕ) (u p e : ℕ) : Type 0 where
@@ -233,6 +270,10 @@ pub record SurveyedGroup (w : List ℕ) (u p e : ℕ) : Type 0 where
   pub some : p < e
   pub kind : 7 ≤ kind_at w p
   pub plain : kind_at w p ≡ 9 → ⊥
+
+-- as the code is told it
+pub group_at : (at : Place) → (7 ≤ kind_at at.table.words.now at.p) × (kind_at at.table.words.now at.p ≡ 9 → ⊥) → SurveyedGroup at.table.words.now at.base at.p at.to
+group_at at k = record { header = at.table.in_order; some = at.some; kind = k.0; plain = k.1 }
 
 module _ {w : List ℕ} {u p e : ℕ} (s : SurveyedGroup w u p e) where
   opened : (xs : Items) → RowsPlaced w (words_of w) u p e xs → Inside w (words_of w) u p e xs
@@ -249,6 +290,10 @@ module _ {w : List ℕ} {u p e : ℕ} (s : SurveyedGroup w u p e) where
 
   pub container_deep : (d : ℕ) → (d ≡ 0 → ⊥) → TooDeep w (words_of w) (d - 1) u (p + 1) (p + 1 + b_at w p) → TooDeep w (words_of w) d u p e
   container_deep d z n xs x = let i = opened xs x in omega (arith, n i.items i.placed, i.deep)
+
+  pub container_unfit : (d : ℕ) (x : Unfit) → (d ≡ 0 → ⊥) → Unsurveyed w (d - 1) u (p + 1) (p + 1 + b_at w p) x → Unsurveyed w d u p e x
+  container_unfit d Wrong z n = container_wrong n
+  container_unfit d Deep z n = container_deep d z n
 
   pub container_kind_lem : kind_ok w p (p + 1 + b_at w p) ≡ false → NoItems w (words_of w) u p e
   container_kind_lem f xs x =
@@ -268,7 +313,7 @@ module _ {w : List ℕ} {u p e : ℕ} (s : SurveyedGroup w u p e) where
         g (omega (arith, found.number, i.number))
 
     pub container_whole : (d ≡ 0 → ⊥) → c ≡ a_at w p → kind_ok w p (p + 1 + b_at w p) ≡ true → (z : ℕ) → z ≡ length (normal_size n) → p + 1 + b_at w p ≤ e →
-        ContainerSurveyed w (words_of w) d u p e (Whole (1 + z + n) 1 v)
+        ContainerSurveyed w d u p e (whole (1 + z + n) 1 v)
     container_whole g q t z y b =
         let r : d ≡ suc (d - 1) = omega arith in
         let i = next_more w p (single_not (kind_at w p) s.kind s.plain) in (
@@ -293,3 +338,19 @@ module _ {w : List ℕ} {D d a b u p v q c n k m : ℕ} (f : RowsPassed w D d a 
 
   pub leaves_on : RowsPassed w D 0 u p v q k m → RowsPassed w D d a b v q (c + k) (n + m)
   leaves_on g = container_on (passed_deeper w D d u p v q k m g)
+
+-- why its next turn is none, and so why the run has no normal form
+pub run_unfit : {w : List ℕ} {d a b e u p c n : ℕ} (f : RowsPassed w (words_of w) d a b u p c n) (x : Unfit) → p ≤ e → Unsurveyed w d u p e x → Unsurveyed w d a b e x
+run_unfit f Wrong l g = run_wrong f l g
+run_unfit f Deep l g = run_deep f l g
+
+-- behind a string, and behind another container
+pub string_behind : (w : List ℕ) (d u p e k : ℕ) (s : Surveyed) → k ≡ kind_at w p → k ≡ 9 → ContainerSurveyed w d u p e (Ok s) → (p + 1 ≤ e) × RowsPassed w (words_of w) d u p s.base (p + 1) s.items s.bytes
+string_behind w d u p e k s ek n j =
+    let i = next_one w p (single_text (kind_at w p) (sym ek ∙ n)) in (omega (arith, j.1), rw i at j.2)
+
+pub group_behind : (w : List ℕ) (d u p e k b : ℕ) (s : Surveyed) → k ≡ kind_at w p → b ≡ b_at w p → 7 ≤ k → (k ≡ 9 → ⊥) → ContainerSurveyed w d u p e (Ok s)
+    → (p + (1 + b) ≤ e) × RowsPassed w (words_of w) d u p s.base (p + (1 + b)) s.items s.bytes
+group_behind w d u p e k b s ek eb g n j =
+    let i : next_row w p ≡ p + (1 + b) = next_more w p (single_not (kind_at w p) (omega arith) (λ z. n (ek ∙ z))) ∙ omega arith in
+    (omega (arith, j.1), rw i at j.2)

@@ -10,7 +10,7 @@ use Rattle.format.specs.Items.{Group, struc, edt, Items, is_string}
 use Rattle.format.specs.Tables.{rows, is_text, container_kind, row_kind}
 use Rattle.format.specs.Normal.{normal_size, with_size, normal_leaf, group_byte, normal, depth}
 use Rattle.format.specs.Answers.{over}
-use Rattle.format.proofs.Choices.{pick_yes, split, if_eq_yes, if_eq_no}
+use Rattle.format.proofs.Choices.{pick_yes, split}
 use Rattle.format.proofs.Digits.{width_mono}
 use Rattle.format.proofs.ItemLaws.{rows_least, rows_none}
 use Rattle.table.specs.Rows.{kind_at, b_at, items_at, Run, leaf_at, text_at}
@@ -19,14 +19,6 @@ use Rattle.table.proofs.RunLaws.{LeafStep, GroupStep, TextStep, leaf_step, group
 use Rattle.format.specs.Lent.{over_at}
 use Rattle.format.proofs.Over.{at_none, at_next, back_length, lent}
 use Rattle.format.proofs.Sizes.{size_small, size_large}
-
-pub head_edt : (k : ℕ) → k ≡ 8 → 0xc3 ≡ head_byte k
-unfolding head_byte
-head_edt k e = sym (if_eq_yes k 8 _ _ e)
-
-pub head_other : (k : ℕ) → (k ≡ 8 → ⊥) → 0xc2 ≡ head_byte k
-unfolding head_byte
-head_other k n = sym (if_eq_no k 8 _ _ n)
 
 head_is : (g : Group) (c : Items) → is_text g c ≡ false → group_byte g c ≡ head_byte (row_kind g c)
 unfolding group_byte head_byte row_kind container_kind is_text is_string if_eq pick

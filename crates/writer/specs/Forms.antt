@@ -1,8 +1,9 @@
 -- The parts of a normal form that the code measures and writes one by one.
-use Rattle.std.specs.Prelude.{ℕ, zero, suc, ◌+◌, ◌/◌, ◌≤◌, ◌<◌, ◌≡◌, true, List, [], ◌∷◌, ◌++◌, length, pos}
+use Rattle.std.specs.Prelude.{ℕ, zero, suc, ◌+◌, ◌*◌, ◌/◌, ◌≤◌, ◌<◌, ◌≡◌, true, List, [], ◌∷◌, ◌++◌, length, get_or, pos}
 use Rattle.format.specs.Choice.{if_lt, if_eq}
 use Rattle.format.specs.Bits.{num, bytes_for}
-use Rattle.format.specs.Normal.{normal_size, normal_int}
+use Rattle.format.specs.Items.{bits}
+use Rattle.format.specs.Normal.{normal_size, normal_int, normal_leaf}
 use Rattle.format.specs.Tables.{from_words}
 use Rattle.table.specs.Rows.{kind_at, b_at, data_of, kept_bytes}
 
@@ -16,10 +17,19 @@ unfoldable pub bits_length : ℕ → ℕ
 unfolding if_lt lbits_size normal_size
 bits_length n = if_lt n 64 (2 + n / 8) (1 + length (normal_size (lbits_size n)) + lbits_size n)
 
+-- these are data words from b on
+abbrev pub Held : List ℕ → ℕ → List ℕ → Type 0
+Held w b ws = (i : ℕ) → i < length ws → get_or ws i 0 ≡ get_or w (3 * get_or w 0 0 + 4 + b + i) 0
+
 -- n bits that stand in the data words from b on, with the marker before them, as a number
 unfoldable pub marker : List ℕ → ℕ → ℕ → ℕ
 unfolding num from_words
 marker w b n = num (true ∷ from_words n b (data_of w))
+
+-- the normal form of a BITS of them
+unfoldable pub bits_form : List ℕ → ℕ → ℕ → List ℕ
+unfolding normal_leaf from_words
+bits_form w b n = normal_leaf (bits (from_words n b (data_of w)))
 
 -- their number, and then the bits
 unfoldable pub numbered : List ℕ → ℕ → ℕ → List ℕ

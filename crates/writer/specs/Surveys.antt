@@ -1,13 +1,15 @@
 -- What the survey of a table finds: rows that are those of items, the length of their normal form, and the data words that are theirs.
 use Rattle.std.specs.Prelude.{ℕ, ◌+◌, ◌-◌, ◌≤◌, ◌<◌, max, ◌≡◌, List, length}
+use Rattle.std.specs.Prelude.{Option, Some, None, Result, Ok, Err}
 use Rattle.writer.specs.declared.survey.Surveyed.{Surveyed}
-use Rattle.writer.specs.declared.survey.Surveyed.TheVariants as surveyed
+use Rattle.writer.specs.declared.survey.Unfit.{Unfit}
+use Rattle.writer.specs.declared.survey.Unfit.TheVariants.{Wrong, Deep}
 use Rattle.writer.specs.declared.survey.Leaves.{Leaves}
-use Rattle.writer.specs.declared.survey.Leaves.TheVariants as leaves
+use Rattle.writer.specs.declared.place.Place.{Place}
 use Rattle.format.specs.Items.{Items}
 use Rattle.format.specs.Tables.{count, data_words}
 use Rattle.format.specs.Normal.{normal, depth}
-use Rattle.table.specs.Rows.{kind_at, a_at, b_at, Stands, next_row}
+use Rattle.table.specs.Rows.{kind_at, a_at, b_at, words_of, Stands, next_row}
 
 -- ---- rows alike
 pub record Small (w : List ℕ) (k m i : ℕ) : Type 0 where
@@ -58,17 +60,27 @@ abbrev pub TooDeep : List ℕ → ℕ → ℕ → ℕ → ℕ → ℕ → Type 0
 TooDeep w D d u p e = (xs : Items) → RowsPlaced w D u p e xs → d < depth xs
 
 -- ---- what the answers of the code say, where u data words come before the row p
-abbrev pub LeavesSurveyed : List ℕ → ℕ → ℕ → ℕ → ℕ → Leaves → Type 0
-LeavesSurveyed w D u p e leaves.Wrong = NoItems w D u p e
-LeavesSurveyed w D u p e (leaves.Right n q v) = (p < q) × (q ≤ e) × RowsPassed w D 0 u p v q (q - p) n
+abbrev pub LeavesSurveyed : List ℕ → ℕ → ℕ → ℕ → Option Leaves → Type 0
+LeavesSurveyed w u p e None = NoItems w (words_of w) u p e
+LeavesSurveyed w u p e (Some l) = (p < l.next) × (l.next ≤ e) × RowsPassed w (words_of w) 0 u p l.base l.next (l.next - p) l.bytes
 
-abbrev pub RunSurveyed : List ℕ → ℕ → ℕ → ℕ → ℕ → ℕ → Surveyed → Type 0
-RunSurveyed w D d u p e surveyed.Wrong = NoItems w D u p e
-RunSurveyed w D d u p e surveyed.Deep = TooDeep w D d u p e
-RunSurveyed w D d u p e (surveyed.Whole n c v) = RowsPassed w D d u p v e c n
+-- why there are no items up to e that have a normal form
+abbrev pub Unsurveyed : List ℕ → ℕ → ℕ → ℕ → ℕ → Unfit → Type 0
+Unsurveyed w d u p e Wrong = NoItems w (words_of w) u p e
+Unsurveyed w d u p e Deep = TooDeep w (words_of w) d u p e
+
+abbrev pub RunSurveyed : List ℕ → ℕ → ℕ → ℕ → ℕ → Result Surveyed Unfit → Type 0
+RunSurveyed w d u p e (Err x) = Unsurveyed w d u p e x
+RunSurveyed w d u p e (Ok s) = RowsPassed w (words_of w) d u p s.base e s.items s.bytes
 
 -- a container's row p and its elements, before e
-abbrev pub ContainerSurveyed : List ℕ → ℕ → ℕ → ℕ → ℕ → ℕ → Surveyed → Type 0
-ContainerSurveyed w D d u p e surveyed.Wrong = NoItems w D u p e
-ContainerSurveyed w D d u p e surveyed.Deep = TooDeep w D d u p e
-ContainerSurveyed w D d u p e (surveyed.Whole n c v) = (p + 1 ≤ next_row w p) × (next_row w p ≤ e) × RowsPassed w D d u p v (next_row w p) c n
+abbrev pub ContainerSurveyed : List ℕ → ℕ → ℕ → ℕ → ℕ → Result Surveyed Unfit → Type 0
+ContainerSurveyed w d u p e (Err x) = Unsurveyed w d u p e x
+ContainerSurveyed w d u p e (Ok s) = (p + 1 ≤ next_row w p) × (next_row w p ≤ e) × RowsPassed w (words_of w) d u p s.base (next_row w p) s.items s.bytes
+
+-- at a place
+abbrev pub LeavesAt : Place → Option Leaves → Type 0
+LeavesAt at r = LeavesSurveyed at.table.words.now at.base at.p at.to r
+
+abbrev pub ContainerAt : ℕ → Place → Result Surveyed Unfit → Type 0
+ContainerAt d at r = ContainerSurveyed at.table.words.now d at.base at.p at.to r

@@ -5,59 +5,50 @@ ghost use Rattle.format.specs.Numbers.{be, signed, width};
 ghost use Rattle.format.specs.Normal.{normal_int, normal_size};
 ghost use Rattle.format.specs.Answers.{over};
 
-use format::signed::value_of;
-
 // The fewest bytes, one at least, that hold a number.
+#[tactic(auto, using(crate::proofs::NumberLaws::sizes))]
 pub fn width(n: u64) -> usize
-    ensures { (result ≡ width n) × (result ≤ 8) }
+    ensures value { result ≡ width n }
+    ensures bound { result ≤ 8 }
 {
-    if n < 256 {
-        return 1;
-    }
-    (71 - u64::leading_zeros(n) as usize) / 8
+    1 + n.max(1).ilog2() as usize / 8
 }
 
 // How many bytes the size field of `n` bytes takes.
+#[tactic(auto, using(crate::proofs::NumberLaws::sizes))]
 pub fn size_length(n: usize) -> usize
     ensures { result ≡ length (normal_size n) }
 {
-    if n == 0 {
-        return 2;
+    match n {
+        0 => 2,
+        1..=128 => 1,
+        _ => 1 + width(n as u64),
     }
-    if n <= 128 {
-        return 1;
-    }
-    1 + width(n as u64)
 }
 
-// Twice the magnitude of a signed number, which is -1 - z where it is negative: k bytes hold it if this is below 256 ^ k.
-pub fn doubled(z: i64) -> u64
-    ensures { result ≡ 2 * mag z }
+// Twice the magnitude of the signed number of a word, which is -1 - z where it is negative: k bytes hold it if this is below 256 ^ k.
+#[tactic(auto, using(crate::proofs::NumberLaws::magnitude))]
+fn doubled(v: u64) -> u64
+    ensures { result ≡ 2 * mag (signed 8 v) }
 {
-    if z < 0 {
-        return 2 * ((-1 - z) as u64);
-    }
-    2 * (z as u64)
+    2 * v.min(!v)
 }
 
+#[tactic(auto, using(crate::proofs::NumberLaws::integers))]
 pub fn int_length(v: u64) -> usize
     ensures { result ≡ length (normal_int (signed 8 v)) }
 {
-    if v < 64 {
-        return 1;
-    }
-    1 + width(doubled(value_of(v)))
+    if v < 64 { 1 } else { 1 + width(doubled(v)) }
 }
 
 // The low four bytes of `n`, the high byte first.
+#[tactic(auto, using(crate::proofs::NumberLaws::four_put))]
 fn put_four(out: &mut [u8], n: u64)
     requires { 4 ≤ length out.old }
     ensures { out.new ≡ over (be 4 (n % 256 ^ 4)) out.old }
 {
-    out[0] = ((n >> 24) % 256) as u8;
-    out[1] = ((n >> 16) % 256) as u8;
-    out[2] = ((n >> 8) % 256) as u8;
-    out[3] = (n % 256) as u8;
+    let low = (n % 0x1_0000_0000) as u32;
+    out[..4].copy_from_slice(&low.to_be_bytes());
 }
 
 // The low `k` bytes of `n`, the high byte first, one by one.
@@ -66,81 +57,79 @@ fn put_each(out: &mut [u8], k: usize, n: u64)
     ensures { out.new ≡ over (be k (n % 256 ^ k)) out.old }
 {
     let mut x = n;
-    let mut i = k;
-    while i > 0 {
-        i -= 1;
+    for i in (0..k).rev() {
         out[i] = (x % 256) as u8;
-        x = x / 256;
+        x /= 256;
     }
 }
 
-// The low `k` bytes of `n`, the high byte first; the first four together, where there are so many.
+// The same of up to eight, the first four together where there are so many. A copy of so many as are not known before takes ten
+// instructions more.
 pub fn put_low(out: &mut [u8], k: usize, n: u64)
     requires { (k ≤ 8) × (k ≤ length out.old) }
     ensures { out.new ≡ over (be k (n % 256 ^ k)) out.old }
 {
     if k < 4 {
         put_each(out, k, n);
-        return;
+    } else {
+        put_four(out, n >> (8 * (k - 4)));
+        put_each(&mut out[4..], k - 4, n);
     }
-    let rest = k - 4;
-    put_four(out, n >> (8 * (rest as u64)));
-    put_each(&mut out[4..], rest, n);
 }
 
-// The eight bytes of a word, the high byte first.
+// The eight bytes of a word.
+#[tactic(auto, using(crate::proofs::NumberLaws::word_put))]
 pub fn put_word(out: &mut [u8], n: u64)
     requires { 8 ≤ length out.old }
     ensures { out.new ≡ over (be 8 n) out.old }
 {
-    out[0] = (n >> 56) as u8;
-    out[1] = ((n >> 48) % 256) as u8;
-    out[2] = ((n >> 40) % 256) as u8;
-    out[3] = ((n >> 32) % 256) as u8;
-    out[4] = ((n >> 24) % 256) as u8;
-    out[5] = ((n >> 16) % 256) as u8;
-    out[6] = ((n >> 8) % 256) as u8;
-    out[7] = (n % 256) as u8;
+    out[..8].copy_from_slice(&n.to_be_bytes());
 }
 
-// A first byte, and the low `k` bytes of `n` behind it.
-pub fn put_tagged(out: &mut [u8], tag: usize, k: usize, n: u64)
-    requires { (tag < 256) × (k ≤ 8) × (k < length out.old) }
-    ensures { out.new ≡ over (tag ∷ be k (n % 256 ^ k)) out.old }
+// A first byte, and the low `k` bytes of `n` behind it. The answer here and below is how many bytes that is.
+#[tactic(auto, using(crate::proofs::NumberLaws::byte_then))]
+pub fn put_tagged(out: &mut [u8], tag: u8, k: usize, n: u64) -> usize
+    requires { (k ≤ 8) × (k < length out.old) }
+    ensures value { result ≡ 1 + k }
+    ensures out_after { out.new ≡ over (tag ∷ be k (n % 256 ^ k)) out.old }
 {
-    out[0] = tag as u8;
+    out[0] = tag;
     put_low(&mut out[1..], k, n);
+    1 + k
 }
 
-pub fn put_size(out: &mut [u8], n: usize)
+#[tactic(auto, using(crate::proofs::NumberLaws::sizes))]
+pub fn put_size(out: &mut [u8], n: usize) -> usize
     requires { length (normal_size n) ≤ length out.old }
-    ensures { out.new ≡ over (normal_size n) out.old }
+    ensures value { result ≡ length (normal_size n) }
+    ensures out_after { out.new ≡ over (normal_size n) out.old }
 {
     if n == 0 {
-        out[0] = 0x81;
-        out[1] = 0;
-        return;
-    }
-    if n < 128 {
+        out[..2].copy_from_slice(&[0x81, 0]);
+        2
+    } else if n < 128 {
         out[0] = n as u8;
-        return;
-    }
-    if n == 128 {
+        1
+    } else if n == 128 {
         out[0] = 0;
-        return;
+        1
+    } else {
+        let k = width(n as u64);
+        put_tagged(out, (0x80 + k) as u8, k, n as u64)
     }
-    let k = width(n as u64);
-    put_tagged(out, 0x80 + k, k, n as u64);
 }
 
-pub fn put_int(out: &mut [u8], v: u64)
+#[tactic(auto, using(crate::proofs::NumberLaws::integers))]
+pub fn put_int(out: &mut [u8], v: u64) -> usize
     requires { length (normal_int (signed 8 v)) ≤ length out.old }
-    ensures { out.new ≡ over (normal_int (signed 8 v)) out.old }
+    ensures value { result ≡ length (normal_int (signed 8 v)) }
+    ensures out_after { out.new ≡ over (normal_int (signed 8 v)) out.old }
 {
     if v < 64 {
         out[0] = (0x80 + v) as u8;
-        return;
+        1
+    } else {
+        let k = width(doubled(v));
+        put_tagged(out, (0xe0 + k % 8) as u8, k, v)
     }
-    let k = width(doubled(value_of(v)));
-    put_tagged(out, 0xe0 + k % 8, k, v);
 }

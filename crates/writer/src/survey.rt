@@ -1,233 +1,241 @@
 // A table's rows judged and measured in one walk: whether a run of rows is that of items, how many they are, how long their
 // normal form is, and how many data words they take; or that they stand too deep.
 ghost use Rattle.std.specs.Prelude.{◌≡◌, ◌+◌, ◌≤◌, ◌<◌};
-ghost use Rattle.table.specs.Rows.{Room, rows_of, words_of, Headed, kind_at};
-ghost use Rattle.writer.specs.Surveys.{Small, SmallRows, LeavesSurveyed, RunSurveyed, ContainerSurveyed};
+ghost use Rattle.table.specs.Rows.{Room, rows_of, words_of, kind_at};
+ghost use Rattle.writer.specs.Surveys.{Small, SmallRows, LeavesAt, RunSurveyed, ContainerAt};
 
 use crate::leaves::bits_length;
 use crate::numbers::{int_length, size_length};
+use crate::place::Place;
+use crate::single::{CHARS, INTS, OneByte};
 use format::kinds::{BITS, CHAR, INT, STRING, STRUC};
-use table::Judged;
+use table::header::Framed;
 use table::judge::plain_ok;
-use table::rows::{kind_ok, next_row};
+use table::rows::{Rows, kind_fits};
 use table::words::{bits_row, string_row};
 
-// The bytes of the normal form, the number of items, and the data words up to the end; or rows that are not those of items; or
-// items in which more containers stand inside one another than were allowed.
+// Some items: the bytes of their normal form, how many they are, and the data words up to their end.
 #[derive(Clone, Copy)]
-pub enum Surveyed {
-    Whole(usize, u64, usize),
+pub struct Surveyed {
+    pub bytes: usize,
+    pub items: u64,
+    pub base: usize,
+}
+
+// Why rows have no normal form: they are not those of items; or more containers stand inside one another than were allowed.
+#[derive(Clone, Copy)]
+pub enum Unfit {
     Wrong,
     Deep,
 }
 
-// A row that is not that of an item; or the bytes of some items without elements, the row behind them, and the data words up to it.
+// Some items without elements: their bytes, the row behind them, and the data words up to it.
 #[derive(Clone, Copy)]
-enum Leaves {
-    Wrong,
-    Right(usize, usize, usize),
+struct Leaves {
+    bytes: usize,
+    next: usize,
+    base: usize,
 }
 
-// 0 where the row `q` has this kind, nothing in the second word, and a last word below `bound`; otherwise some number.
-fn strange(table: &[u64], q: usize, kind: u64, bound: u64) -> u64
-    requires { Room table.now (q + 1) (q + 1) × (0 < bound) }
-    ensures small { result ≡ 0 → Small table.now kind bound q }
-    ensures value { Small table.now kind bound q → result ≡ 0 }
+// 0 where the row `q` is that of such an item; otherwise some number, so that four rows are joined by `|` and tested once.
+#[inline(always)]
+#[tactic(auto, using(crate::proofs::Surveying::smallness))]
+fn strange(rows: Rows<'_>, q: usize, one: OneByte) -> u64
+    requires { q < rows.to }
+    ensures small { result ≡ 0 → Small rows.entry.words.now one.kind one.bound q }
+    ensures value { Small rows.entry.words.now one.kind one.bound q → result ≡ 0 }
 {
-    (table[3 * q + 4] ^ kind) | table[3 * q + 5] | (table[3 * q + 6] / bound)
+    let row = rows.row(q);
+    (row.kind ^ one.kind) | row.a | (row.b / one.bound)
 }
 
-// Rows from `p` on, four at a time, none of them strange.
-fn fours_until(table: &[u64], p: usize, to: usize, kind: u64, bound: u64) -> usize
-    requires { Room table.now p to × (0 < bound) }
-    ensures { SmallRows table.now kind bound p to result }
+// From the first of these rows on, four at a time, those of such items.
+#[inline(always)]
+#[tactic(auto, using(crate::proofs::Surveying::alike))]
+fn fours_until(rows: Rows<'_>, one: OneByte) -> usize
+    ensures { SmallRows rows.entry.words.now one.kind one.bound rows.entry.from rows.entry.to result }
 {
-    let mut q = p;
-    while to - q >= 4 {
-        let first = strange(table, q, kind, bound) | strange(table, q + 1, kind, bound);
-        let second = strange(table, q + 2, kind, bound) | strange(table, q + 3, kind, bound);
+    let fours = (rows.to - rows.from) / 4;
+    for four in 0..fours {
+        let q = rows.from + 4 * four;
+        let first = strange(rows, q, one) | strange(rows, q + 1, one);
+        let second = strange(rows, q + 2, one) | strange(rows, q + 3, one);
         if first | second != 0 {
             return q;
         }
-        q += 4;
     }
-    q
+    rows.from + 4 * fours
 }
 
-// How far from `p` on no row is strange.
-fn small_until(table: &[u64], p: usize, to: usize, kind: u64, bound: u64) -> usize
-    requires { Room table.now p to × (0 < bound) }
-    ensures small_rows { SmallRows table.now kind bound p to result }
-    ensures stops { result < to → Small table.now kind bound result → ⊥ }
+// How far from the first of these rows on they are those of such items.
+#[inline(always)]
+#[tactic(auto, using(crate::proofs::Surveying::alike))]
+fn small_until(rows: Rows<'_>, one: OneByte) -> usize
+    ensures small_rows { SmallRows rows.entry.words.now one.kind one.bound rows.entry.from rows.entry.to result }
+    ensures stops { result < rows.entry.to → Small rows.entry.words.now one.kind one.bound result → ⊥ }
 {
-    let mut q = fours_until(table, p, to, kind, bound);
-    while q < to {
-        if strange(table, q, kind, bound) != 0 {
+    for q in fours_until(rows, one)..rows.to {
+        if strange(rows, q, one) != 0 {
             return q;
         }
-        q += 1;
     }
-    q
+    rows.to
 }
 
-// The INTs from the row `p` on that take one byte each, or the one that takes more.
-fn survey_ints(table: &[u64], p: usize, to: usize, base: usize) -> Leaves
-    requires headed { Headed table.now × (kind_at table.now p ≡ 1) }
-    requires p_lt_to { (p < to) × (to ≤ rows_of table.now) × (base ≤ words_of table.now) }
-    ensures { LeavesSurveyed table.now (words_of table.now) base p to result }
+// The INTs from the place on that take one byte each, or the one that takes more.
+fn survey_ints(at: Place<'_>) -> Option<Leaves>
+    requires { kind_at at.table.words.now at.p ≡ 1 }
+    ensures { LeavesAt at.entry result }
 {
-    if table[3 * p + 5] != 0 {
-        return Leaves::Wrong;
+    let row = at.table.row(at.p);
+    if row.a != 0 {
+        return None;
     }
-    let value = table[3 * p + 6];
-    if value < 64 {
-        let next = small_until(table, p, to, INT, 64);
-        return Leaves::Right(next - p, next, base);
+    if row.b < INTS.bound {
+        let next = small_until(at.table.rows(at.p, at.to), INTS);
+        return Some(Leaves {
+            bytes: next - at.p,
+            next,
+            base: at.base,
+        });
     }
-    Leaves::Right(int_length(value), p + 1, base)
+    Some(Leaves {
+        bytes: int_length(row.b),
+        next: at.p + 1,
+        base: at.base,
+    })
 }
 
-// The one row `p`, of any kind but that of an INT or a container.
-fn survey_leaf(table: &[u64], p: usize, to: usize, base: usize) -> Leaves
-    requires headed { Headed table.now × (kind_at table.now p < 7) × (kind_at table.now p ≡ 1 → ⊥) }
-    requires p_lt_to { (p < to) × (to ≤ rows_of table.now) × (base ≤ words_of table.now) }
-    ensures { LeavesSurveyed table.now (words_of table.now) base p to result }
+// The one row of the place, of any kind but that of an INT or a container.
+fn survey_leaf(at: Place<'_>) -> Option<Leaves>
+    requires { (kind_at at.table.words.now at.p < 7) × (kind_at at.table.words.now at.p ≡ 1 → ⊥) }
+    ensures { LeavesAt at.entry result }
 {
-    let kind = table[3 * p + 4];
-    if kind == BITS {
-        let rows = table[0] as usize;
-        let words = table[3] as usize;
-        let row = bits_row(
-            table,
-            table[3 * p + 5] as usize,
-            table[3 * p + 6] as usize,
-            rows,
-            words,
-            base,
-        );
-        match row {
-            Judged::Wrong => return Leaves::Wrong,
-            Judged::Right(used) => {
-                return Leaves::Right(bits_length(table[3 * p + 5] as usize), p + 1, base + used);
-            }
+    let row = at.table.row(at.p);
+    let next = at.p + 1;
+    if row.kind == BITS {
+        let bits = row.a as usize;
+        let used = bits_row(at.table, bits, row.b as usize, at.base)?;
+        return Some(Leaves {
+            bytes: bits_length(bits),
+            next,
+            base: at.base + used,
+        });
+    }
+    plain_ok(row).then_some(Leaves {
+        bytes: 1,
+        next,
+        base: at.base,
+    })
+}
+
+// Some of the items without elements from the place on.
+fn survey_leaves(at: Place<'_>) -> Option<Leaves>
+    requires { kind_at at.table.words.now at.p < 7 }
+    ensures { LeavesAt at.entry result }
+{
+    match at.table.row(at.p).kind {
+        CHAR => {
+            let next = small_until(at.table.rows(at.p, at.to), CHARS);
+            (next > at.p).then_some(Leaves {
+                bytes: next - at.p,
+                next,
+                base: at.base,
+            })
         }
+        INT => survey_ints(at),
+        _ => survey_leaf(at),
     }
-    if plain_ok(kind, table[3 * p + 5], table[3 * p + 6]) {
-        return Leaves::Right(1, p + 1, base);
-    }
-    Leaves::Wrong
 }
 
-// Some of the items without elements from the row `p` on.
-fn survey_leaves(table: &[u64], p: usize, to: usize, base: usize) -> Leaves
-    requires headed { Headed table.now × (kind_at table.now p < 7) }
-    requires p_lt_to { (p < to) × (to ≤ rows_of table.now) × (base ≤ words_of table.now) }
-    ensures { LeavesSurveyed table.now (words_of table.now) base p to result }
-{
-    let kind = table[3 * p + 4];
-    if kind == CHAR {
-        let next = small_until(table, p, to, CHAR, 128);
-        if next == p {
-            return Leaves::Wrong;
-        }
-        return Leaves::Right(next - p, next, base);
-    }
-    if kind == INT {
-        return survey_ints(table, p, to, base);
-    }
-    survey_leaf(table, p, to, base)
-}
-
-// The string whose row is `p`; `depth` containers are allowed, itself among them.
-fn survey_string(table: &[u64], p: usize, to: usize, base: usize, depth: usize) -> Surveyed
-    requires headed { Headed table.now × (kind_at table.now p ≡ 9) }
-    requires p_lt_to { (p < to) × (to ≤ rows_of table.now) × (base ≤ words_of table.now) }
-    ensures { ContainerSurveyed table.now (words_of table.now) depth base p to result }
+// The string whose row stands at the place; `depth` containers are allowed, itself among them.
+fn survey_string(at: Place<'_>, depth: usize) -> Result<Surveyed, Unfit>
+    requires { kind_at at.table.words.now at.p ≡ 9 }
+    ensures { ContainerAt depth at.entry result }
 {
     if depth == 0 {
-        return Surveyed::Deep;
+        return Err(Unfit::Deep);
     }
-    let rows = table[0] as usize;
-    let words = table[3] as usize;
-    let row = string_row(table, p, rows, words, base);
-    match row {
-        Judged::Wrong => Surveyed::Wrong,
-        Judged::Right(used) => {
-            let size = table[3 * p + 5] as usize;
-            Surveyed::Whole(1 + size_length(size) + size, 1, base + used)
-        }
-    }
+    let row = at.table.row(at.p);
+    let size = row.a as usize;
+    let Some(used) = string_row(at.table, size, row.b as usize, at.base) else {
+        return Err(Unfit::Wrong);
+    };
+    Ok(Surveyed {
+        bytes: 1 + size_length(size) + size,
+        items: 1,
+        base: at.base + used,
+    })
 }
 
-// The container whose row is `p`, with its elements; `depth` containers are allowed, itself among them.
+// The container that is no string whose row stands at the place, with its elements; `depth` containers are allowed, itself among them.
 #[cycle(survey_container_survey_run)]
-fn survey_container(table: &[u64], p: usize, to: usize, base: usize, depth: usize) -> Surveyed
-    requires headed { Headed table.now × (7 ≤ kind_at table.now p) }
-    requires p_lt_to { (p < to) × (to ≤ rows_of table.now) × (base ≤ words_of table.now) }
-    ensures { ContainerSurveyed table.now (words_of table.now) depth base p to result }
+fn survey_container(at: Place<'_>, depth: usize) -> Result<Surveyed, Unfit>
+    requires { (7 ≤ kind_at at.table.words.now at.p) × (kind_at at.table.words.now at.p ≡ 9 → ⊥) }
+    ensures { ContainerAt depth at.entry result }
 {
-    if table[3 * p + 4] == STRING {
-        return survey_string(table, p, to, base, depth);
-    }
+    let row = at.table.row(at.p);
     if depth == 0 {
-        return Surveyed::Deep;
+        return Err(Unfit::Deep);
     }
-    let beneath = table[3 * p + 6] as usize;
-    if to - (p + 1) < beneath {
-        return Surveyed::Wrong;
+    let beneath = row.b as usize;
+    if at.to - (at.p + 1) < beneath {
+        return Err(Unfit::Wrong);
     }
-    let next = p + 1 + beneath;
-    let inner = survey_run(table, p + 1, next, base, depth - 1);
-    match inner {
-        Surveyed::Wrong => Surveyed::Wrong,
-        Surveyed::Deep => Surveyed::Deep,
-        Surveyed::Whole(n, count, after) => {
-            if count != table[3 * p + 5] {
-                return Surveyed::Wrong;
-            }
-            if !kind_ok(table, p, next) {
-                return Surveyed::Wrong;
-            }
-            Surveyed::Whole(1 + size_length(n) + n, 1, after)
-        }
+    let next = at.p + 1 + beneath;
+    let inner = survey_run(at.table, at.p + 1, next, at.base, depth - 1)?;
+    if inner.items != row.a || !kind_fits(row.kind, at.table.rows(at.p + 1, next)) {
+        return Err(Unfit::Wrong);
     }
+    Ok(Surveyed {
+        bytes: 1 + size_length(inner.bytes) + inner.bytes,
+        items: 1,
+        base: inner.base,
+    })
 }
 
+// The rows from `from` up to `to`, where `before` data words came before them; `depth` containers are allowed.
 #[cycle(survey_container_survey_run)]
-pub fn survey_run(table: &[u64], from: usize, to: usize, before: usize, depth: usize) -> Surveyed
-    requires headed { Headed table.now }
-    requires from_le_to { (from ≤ to) × (to ≤ rows_of table.now) × (before ≤ words_of table.now) }
-    ensures { RunSurveyed table.now (words_of table.now) depth before from to result }
+pub fn survey_run(
+    table: Framed<'_>,
+    from: usize,
+    to: usize,
+    before: usize,
+    depth: usize,
+) -> Result<Surveyed, Unfit>
+    requires from_le_to { (from ≤ to) × (to ≤ rows_of table.words.now) }
+    requires fits { before ≤ words_of table.words.now }
+    ensures { RunSurveyed table.entry.words.now depth before from to result }
 {
     let mut p = from;
     let mut base = before;
-    let mut count: u64 = 0;
-    let mut n: usize = 0;
+    let mut items: u64 = 0;
+    let mut bytes: usize = 0;
+    // The step is an item's rows, or those of many, which no range counts.
     while p < to {
-        if table[3 * p + 4] < STRUC {
-            let some = survey_leaves(table, p, to, base);
-            match some {
-                Leaves::Wrong => return Surveyed::Wrong,
-                Leaves::Right(bytes, next, after) => {
-                    n += bytes;
-                    count += (next - p) as u64;
-                    base = after;
-                    p = next;
-                    continue;
-                }
-            }
-        }
-        let one = survey_container(table, p, to, base, depth);
-        match one {
-            Surveyed::Wrong => return Surveyed::Wrong,
-            Surveyed::Deep => return Surveyed::Deep,
-            Surveyed::Whole(bytes, items, after) => {
-                n += bytes;
-                count += items;
-                base = after;
-                p = next_row(table, p);
-            }
+        let at = Place { table, p, to, base };
+        let row = table.row(p);
+        if row.kind < STRUC {
+            let Some(some) = survey_leaves(at) else {
+                return Err(Unfit::Wrong);
+            };
+            bytes += some.bytes;
+            items += (some.next - p) as u64;
+            base = some.base;
+            p = some.next;
+        } else if row.kind == STRING {
+            let one = survey_string(at, depth)?;
+            bytes += one.bytes;
+            items += one.items;
+            base = one.base;
+            p += 1;
+        } else {
+            let one = survey_container(at, depth)?;
+            bytes += one.bytes;
+            items += one.items;
+            base = one.base;
+            p += 1 + row.b as usize;
         }
     }
-    Surveyed::Whole(n, count, base)
+    Ok(Surveyed { bytes, items, base })
 }

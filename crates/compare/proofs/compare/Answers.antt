@@ -4,17 +4,18 @@ use native.Mathlib.Omega.{arith}
 use Rattle.compare.specs.Walks.{BothTables}
 use Rattle.compare.proofs.Answering.{both_tables, not_left, not_right, long}
 use Rattle.compare.proofs.compare.Goals as goal
-use Rattle.compare.proofs.compare.Goals.{Else-not-is_table-2}
+use Rattle.compare.proofs.compare.Goals.{Else-not-is_table-2, then-not-is_table-via-then-not-is_table, then-not-is_table-via-else-not-is_table+then-not-is_table-2}
 
 -- both are tables
 tables : (c : Else-not-is_table-2) → BothTables c.args.left.now c.args.right.now
-tables c = both_tables _ _ (sym c.if-not-is_table.false ∙ c.is_table.ensures) (sym c.if-not-is_table-2.false ∙ c.is_table-2.ensures)
+tables c = both_tables _ _ (sym c.if-not-is_table.false ∙ c.is_table.ensures) (sym c.if-not-is_table-2.false ∙ c.is_table-else-not-is_table.ensures)
 
 pub returns-then-not-is_table : goal.returns-then-not-is_table
-returns-then-not-is_table c = not_left _ _ _ (sym c.if-not-is_table.true ∙ c.is_table.ensures)
-
-pub returns-then-not-is_table-2 : goal.returns-then-not-is_table-2
-returns-then-not-is_table-2 c = not_right _ _ _ (sym c.if-not-is_table-2.true ∙ c.is_table-2.ensures)
+returns-then-not-is_table c =
+    rw c.refused.ensures (elim c.then-not-is_table.branch [
+      | then-not-is_table-via-then-not-is_table w ↦ not_left _ _ _ (sym w.if-not-is_table.true ∙ c.is_table.ensures)
+      | then-not-is_table-via-else-not-is_table+then-not-is_table-2 w ↦ not_right _ _ _ (sym w.if-not-is_table-2.true ∙ w.is_table-else-not-is_table.ensures)
+    ])
 
 pub bounds-left-1 : goal.bounds-left-1
 bounds-left-1 c = omega (arith, (long _ _ (tables (goal.at.bounds-left-1 c).Else-not-is_table-2)).0)

@@ -5,4 +5,4 @@ use Rattle.explain.proofs.told.Goals as goal
 
 pub returns : goal.returns
 unfolding told_of
-returns c = rw c.coded_of-c.ensures refl
+returns c = rw c.code-code.ensures refl

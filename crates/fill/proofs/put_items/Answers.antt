@@ -11,8 +11,8 @@ seen_at c = seen _ _ _ _ c.requires.1
 pub returns-then-rows-eq0 : goal.returns-then-rows-eq0
 returns-then-rows-eq0 c = no_items (seen_at (goal.at.returns-then-rows-eq0 c).Start) c.if-rows-eq0.true
 
-pub overflow_mul-rows : goal.overflow_mul-rows
-overflow_mul-rows c = let s = seen_at (goal.at.overflow_mul-rows c).Start in omega (arith, s.rows_are, s.few_rows)
+pub overflow_mul-place : goal.overflow_mul-place
+overflow_mul-place c = let s = seen_at (goal.at.overflow_mul-place c).Start in omega (arith, s.rows_are, s.few_rows)
 
 pub slice_bounds-fill_run-count : goal.slice_bounds-fill_run-count
 slice_bounds-fill_run-count c = (items_fit (seen_at (goal.at.slice_bounds-fill_run-count c).Start)).0
@@ -20,8 +20,8 @@ slice_bounds-fill_run-count c = (items_fit (seen_at (goal.at.slice_bounds-fill_r
 pub slice_bounds-fill_run-start : goal.slice_bounds-fill_run-start
 slice_bounds-fill_run-start c = (items_fit (seen_at (goal.at.slice_bounds-fill_run-start c).Start)).0
 
-pub fill_run-f-requires : goal.fill_run-f-requires
-fill_run-f-requires c = (omega (arith, c.requires.0), (items_fit (seen_at (goal.at.fill_run-f-requires c).Start)).1)
+pub fill_run-requires : goal.fill_run-requires
+fill_run-requires c = (omega (arith, c.requires.0), (items_fit (seen_at (goal.at.fill_run-requires c).Start)).1)
 
 pub returns : goal.returns
-returns c = items_put (seen_at (goal.at.returns c).Start) c.fill_run-f.ensures
+returns c = items_put (seen_at (goal.at.returns c).Start) c.fill_run.ensures

@@ -1,111 +1,113 @@
 -- `descend` meets its contract, step by step. Assumes nothing.
 use native.Mathlib.Omega.{arith}
-use mathlib.Core.Path.{◌≡◌, refl, sym, ◌∙◌, subst}
-use mathlib.Core.Logic.{◌≢◌}
-use Prim.Native.Nat.{◌+◌, ◌≤◌, ◌<◌}
-use lib.ListN.{get_or}
-use Rattle.format.proofs.Choices.{true_eq, eq_true, clash}
-use Rattle.explain.specs.Told.{StepIs}
+use Prim.Native.Nat.{ℕ, ◌+◌, ◌≤◌, ◌<◌}
+use mathlib.Core.Path.{◌≡◌, refl, sym, ap, subst, ◌∙◌}
+use lib.ListN.{length, get_or}
+use Rattle.std.specs.Prelude.{Ok, Err}
+use Rattle.wire.specs.declared.size.Extent.{Extent}
+use Rattle.explain.specs.declared.descent.Step.{Step}
+use Rattle.explain.specs.declared.descent.Step.TheVariants.{Over, Into}
+use Rattle.explain.specs.Reasons.{between}
+use Rattle.explain.specs.Told.{StepIs, around_of}
 use Rattle.explain.proofs.Counting.{part_small}
-use Rattle.explain.proofs.Descending.{descend_start, bounds, halt_shallow, halt_repeat, halt_other, over_fits, step_over, into_fits, step_past, step_into, step_singles, arrived}
+use Rattle.explain.proofs.Descending.{descend_start, bounds, halt_shallow, halt_repeat, halt_other, over_fits, step_over, into_fits, gone_into, gone_past, step_singles, arrived, deep, step_here, step_found, repeat_byte, no_repeat}
 use Rattle.explain.proofs.descent.descend.Goals as goal
-use Rattle.explain.proofs.descent.descend.Goals.{Else-is_repeat, In-Into, In-Over, Then-is_repeat}
+use Rattle.explain.proofs.descent.descend.Goals.{In-loop-at, In-Ok, In_default-step_of, then-is, else-is}
 
--- refused by its head, and a REPEAT or not
-repeat_here : (c : Then-is_repeat) → get_or c.args.m.now c.loop-at.at 0 ≡ 0xc4
-repeat_here c = true_eq _ _ (sym c.is_repeat.ensures ∙ c.if-is_repeat.true)
+-- the object at `at` lies within the message
+there : (c : In-loop-at) → (c.loop-at.at < c.loop-at.end) × (c.loop-at.end ≤ length c.args.m.now)
+there c = let b = bounds c.loop-at.invariant in (b.0, b.1)
 
-other_here : (c : Else-is_repeat) → get_or c.args.m.now c.loop-at.at 0 ≢ 0xc4
-other_here c e = clash _ (c.is_repeat.ensures ∙ eq_true _ _ e) c.if-is_repeat.false
+-- the step that was found
+found : (c : In-Ok) (x : Step) → c.in-Ok.step ≡ x
+    → StepIs (length (around_of c.loop-at.trail)) (get_or c.args.m.now c.loop-at.at 0) (between c.args.m.now (c.loop-at.at + 1) c.loop-at.end) (Ok x)
+found c x e = step_found _ c.loop-at.trail _ _ _ _ c.in-Ok.step x c.first.ensures c.behind.ensures (subst (λ d. StepIs d c.first.result c.behind.result.now (Ok c.in-Ok.step)) c.len.ensures c.in-Ok.ensures) e
 
-shallow_here : (c : Then-is_repeat) → c.loop-at.depth < 16
-shallow_here c = halt_shallow c.loop-at.invariant c.loop-at-test.true (subst (StepIs _ _ _) c.in-Halt.is c.step_of-s.ensures) (true_eq _ _ (sym c.is_repeat.ensures ∙ c.if-is_repeat.true))
+stopped : (c : In_default-step_of)
+    → StepIs (length (around_of c.loop-at.trail)) (get_or c.args.m.now c.loop-at.at 0) (between c.args.m.now (c.loop-at.at + 1) c.loop-at.end) (Err c.in_default-step_of.field-0)
+stopped c = step_here _ c.loop-at.trail _ _ _ _ (Err c.in_default-step_of.field-0) c.first.ensures c.behind.ensures (rw c.len.ensures at c.in_default-step_of.ensures)
 
--- the object's bytes lie within the run
-over_here : (c : In-Over) → c.loop-at.at + 1 + c.in-Over.past ≤ c.loop-at.end
-over_here c = over_fits c.loop-at.invariant (subst (StepIs _ _ _) c.in-Over.is c.step_of-s.ensures)
+-- its bytes lie within the run
+over_here : (c : In-Ok) (u : ℕ) → c.in-Ok.step ≡ Over u → c.loop-at.at + 1 + u ≤ c.loop-at.end
+over_here c u e = over_fits c.loop-at.invariant (found c _ e)
 
-into_here : (c : In-Into)
-    → (c.loop-at.at + 1 + c.in-Into.a + c.in-Into.n ≤ c.loop-at.end) × (c.loop-at.depth < 16)
-into_here c = into_fits c.loop-at.invariant c.loop-at-test.true (subst (StepIs _ _ _) c.in-Into.is c.step_of-s.ensures)
-
-pub returns-then-is_repeat : goal.returns-then-is_repeat
-returns-then-is_repeat c = halt_repeat c.loop-at.invariant c.loop-at-test.true (subst (StepIs _ _ _) c.in-Halt.is c.step_of-s.ensures) (repeat_here (goal.at.returns-then-is_repeat c).Then-is_repeat)
-
-pub returns-in-Halt : goal.returns-in-Halt
-returns-in-Halt c = halt_other c.loop-at.invariant c.loop-at-test.true (subst (StepIs _ _ _) c.in-Halt.is c.step_of-s.ensures) (other_here (goal.at.returns-in-Halt c).Else-is_repeat)
-
-pub loop-at-preserved-then-single-at : goal.loop-at-preserved-then-single-at
-loop-at-preserved-then-single-at c = step_singles _ c.loop-at.invariant c.singles_end-single.ensures
-
-pub loop-at-preserved-in-Over : goal.loop-at-preserved-in-Over
-loop-at-preserved-in-Over c = step_over c.loop-at.invariant (subst (StepIs _ _ _) c.in-Over.is c.step_of-s.ensures)
-
-pub loop-at-preserved-then-place-past : goal.loop-at-preserved-then-place-past
-loop-at-preserved-then-place-past c = step_into c.loop-at.invariant c.loop-at-test.true (subst (StepIs _ _ _) c.in-Into.is c.step_of-s.ensures) c.if-place-past.true
-
-pub loop-at-preserved : goal.loop-at-preserved
-loop-at-preserved c = step_past c.loop-at.invariant c.loop-at-test.true (subst (StepIs _ _ _) c.in-Into.is c.step_of-s.ensures) (omega (arith, c.if-place-past.false))
+into_here : (c : In-Ok) (x : Extent) → c.in-Ok.step ≡ Into x
+    → (c.loop-at.at + 1 + x.start + x.size ≤ c.loop-at.end) × (length (around_of c.loop-at.trail) < 16)
+into_here c x e = into_fits c.loop-at.invariant c.loop-at-test.true (found c _ e)
 
 pub loop-at-init : goal.loop-at-init
-loop-at-init c = descend_start _ _ _ c.requires.refused_at refl
+loop-at-init c = descend_start _ _ c.args.trail.now c.requires.nothing_open c.requires.refused_at
 
-pub bounds-m-at : goal.bounds-m-at
-bounds-m-at c = omega (arith, bounds c.loop-at.invariant)
+pub singles_end-requires : goal.singles_end-requires
+singles_end-requires c = there c
 
-pub overflow_add-behind : goal.overflow_add-behind
-overflow_add-behind c = omega (arith, bounds c.loop-at.invariant, c.requires.m_len_bound)
+pub loop-at-preserved-in-Some : goal.loop-at-preserved-in-Some
+loop-at-preserved-in-Some c = step_singles _ c.loop-at.invariant c.in-Some.ensures.1
 
-pub slice_bounds-step_of-count : goal.slice_bounds-step_of-count
-slice_bounds-step_of-count c = omega (arith, bounds c.loop-at.invariant)
+pub first-requires : goal.first-requires
+first-requires c = (bounds c.loop-at.invariant).0
 
-pub slice_bounds-step_of-start : goal.slice_bounds-step_of-start
-slice_bounds-step_of-start c = omega (arith, bounds c.loop-at.invariant)
+pub behind-requires : goal.behind-requires
+behind-requires c = (bounds c.loop-at.invariant).0
 
-pub slice_bounds-step_of-end : goal.slice_bounds-step_of-end
-slice_bounds-step_of-end c = omega (arith, bounds c.loop-at.invariant)
+pub step_of-requires : goal.step_of-requires
+step_of-requires c =
+    let b = bounds c.loop-at.invariant in
+    rw c.behind.ensures (omega (arith, part_small c.args.m.now (c.loop-at.at + 1) c.loop-at.end (omega (arith, b)), c.requires.m_len_bound))
 
-pub step_of-s-requires : goal.step_of-s-requires
-step_of-s-requires c = let b = bounds c.loop-at.invariant in omega (arith, part_small c.args.m.now (c.loop-at.at + 1) c.loop-at.end (omega (arith, b)), c.requires.m_len_bound)
+pub first-requires-in_default-step_of : goal.first-requires-in_default-step_of
+first-requires-in_default-step_of c = (bounds c.loop-at.invariant).0
 
-pub offset_bounds-trail-depth : goal.offset_bounds-trail-depth
-offset_bounds-trail-depth c = omega (arith, shallow_here (goal.at.offset_bounds-trail-depth c).Then-is_repeat)
+pub push-requires : goal.push-requires
+push-requires c =
+    omega (
+      arith,
+      deep c.loop-at.trail,
+      halt_shallow c.loop-at.invariant c.loop-at-test.true _ (stopped (goal.at.push-requires c).In_default-step_of)
+          (repeat_byte _ _ c.first-in_default-step_of.ensures (c.is.ensures.0 c.if-is.true)),
+    )
 
-pub bounds-trail-depth : goal.bounds-trail-depth
-bounds-trail-depth c = shallow_here (goal.at.bounds-trail-depth c).Then-is_repeat
+pub returns-in_default-step_of : goal.returns-in_default-step_of
+returns-in_default-step_of c =
+    let h = stopped (goal.at.returns-in_default-step_of c).In_default-step_of in
+    elim c.if-is.branch [
+      | then-is w ↦
+          halt_repeat c.loop-at.invariant c.loop-at-test.true _ h (repeat_byte _ _ c.first-in_default-step_of.ensures (c.is.ensures.0 w.if-is.true)) _ w.push.ensures.places _
+          refl refl refl (c.len.ensures ∙ sym (deep c.loop-at.trail)) _ (ap around_of w.trail-is)
+      | else-is w ↦
+          halt_other c.loop-at.invariant c.loop-at-test.true _ h (no_repeat _ _ c.first-in_default-step_of.ensures w.if-is.ensures.1) _ refl refl refl (c.len.ensures ∙ sym (deep c.loop-at.trail)) _
+          (ap around_of w.trail-is)
+    ]
 
-pub overflow_add-at : goal.overflow_add-at
-overflow_add-at c = omega (arith, over_here (goal.at.overflow_add-at c).In-Over, bounds c.loop-at.invariant, c.requires.m_len_bound)
-
-pub loop-at-smaller-then-single-at : goal.loop-at-smaller-then-single-at
-loop-at-smaller-then-single-at c = omega (arith, bounds c.loop-at.invariant)
-
-pub overflow_add-from : goal.overflow_add-from
-overflow_add-from c = omega (arith, (into_here (goal.at.overflow_add-from c).In-Into).0, bounds c.loop-at.invariant, c.requires.m_len_bound)
-
-pub overflow_add-past : goal.overflow_add-past
-overflow_add-past c = omega (arith, (into_here (goal.at.overflow_add-past c).In-Into).0, bounds c.loop-at.invariant, c.requires.m_len_bound)
-
-pub offset_bounds-trail-depth-then-place-past : goal.offset_bounds-trail-depth-then-place-past
-offset_bounds-trail-depth-then-place-past c = omega (arith, (into_here (goal.at.offset_bounds-trail-depth-then-place-past c).In-Into).1)
-
-pub bounds-trail-depth-then-place-past : goal.bounds-trail-depth-then-place-past
-bounds-trail-depth-then-place-past c = (into_here (goal.at.bounds-trail-depth-then-place-past c).In-Into).1
-
-pub overflow_add-depth : goal.overflow_add-depth
-overflow_add-depth c = omega (arith, (into_here (goal.at.overflow_add-depth c).In-Into).1)
+pub overflow_add-at-in-Over : goal.overflow_add-at-in-Over
+overflow_add-at-in-Over c = omega (arith, over_here (goal.at.overflow_add-at-in-Over c).In-Ok _ c.in-Over.is, bounds c.loop-at.invariant, c.requires.m_len_bound)
 
 pub loop-at-smaller-in-Over : goal.loop-at-smaller-in-Over
 loop-at-smaller-in-Over c = omega (arith, bounds c.loop-at.invariant)
 
-pub loop-at-smaller-then-place-past : goal.loop-at-smaller-then-place-past
-loop-at-smaller-then-place-past c = omega (arith, (into_here (goal.at.loop-at-smaller-then-place-past c).In-Into).0, bounds c.loop-at.invariant)
+pub loop-at-preserved-in-Over : goal.loop-at-preserved-in-Over
+loop-at-preserved-in-Over c = step_over c.loop-at.invariant (found (goal.at.loop-at-preserved-in-Over c).In-Ok _ c.in-Over.is)
+
+pub inside-contents-requires : goal.inside-contents-requires
+inside-contents-requires c = let f = into_here (goal.at.inside-contents-requires c).In-Ok _ c.in-Into.is in (f.0, omega (arith, f.1, c.len.ensures, deep c.loop-at.trail))
+
+pub loop-at-smaller-then-place-contents : goal.loop-at-smaller-then-place-contents
+loop-at-smaller-then-place-contents c =
+    omega (arith, (into_here (goal.at.loop-at-smaller-then-place-contents c).In-Ok _ c.in-Into.is).0, bounds c.loop-at.invariant, c.inside-contents.ensures.from, c.inside-contents.ensures.end)
+
+pub loop-at-preserved-then-place-contents : goal.loop-at-preserved-then-place-contents
+loop-at-preserved-then-place-contents c =
+    let e = c.inside-contents.ensures in
+    gone_into c.loop-at.invariant c.loop-at-test.true _ _ e.from e.end (found (goal.at.loop-at-preserved-then-place-contents c).In-Ok _ c.in-Into.is) _
+    c.push-then-place-contents.ensures.places c.if-place-contents.true
 
 pub loop-at-smaller : goal.loop-at-smaller
-loop-at-smaller c = omega (arith, bounds c.loop-at.invariant)
+loop-at-smaller c = omega (arith, bounds c.loop-at.invariant, c.inside-contents.ensures.end)
 
-pub singles_end-single-requires : goal.singles_end-single-requires
-singles_end-single-requires c = let b = bounds c.loop-at.invariant in (b.0, b.1)
+pub loop-at-preserved : goal.loop-at-preserved
+loop-at-preserved c =
+    let e = c.inside-contents.ensures in
+    gone_past c.loop-at.invariant c.loop-at-test.true _ _ e.from e.end (found (goal.at.loop-at-preserved c).In-Ok _ c.in-Into.is) c.if-place-contents.false
 
 pub returns : goal.returns
-returns c = arrived c.loop-at.invariant (omega arith)
+returns c = arrived c.loop-at.invariant (omega arith) _ refl refl refl (c.len-2.ensures ∙ sym (deep c.loop-at.trail)) _ refl

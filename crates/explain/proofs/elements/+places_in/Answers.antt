@@ -1,62 +1,64 @@
 -- The walk over elements; what is left of the run falls at each call. The loop's invariant: the elements passed, and those to come.
 -- Assumes nothing.
-use Prim.Native.Nat.{ℕ, ◌+◌, ◌≤◌, ◌<◌}
+use Prim.Native.Nat.{ℕ, ◌+◌}
 use native.Mathlib.Omega.{arith}
-use mathlib.Core.Path.{subst}
-use Rattle.explain.specs.Told.{PieceIs}
+use mathlib.Core.Path.{◌≡◌, sym, ◌∙◌, subst}
+use lib.ListN.{get_or}
+use Rattle.std.specs.Prelude.{Ok, Err}
+use Rattle.explain.specs.declared.elements.Piece.{Piece}
+use Rattle.explain.specs.Reasons.{between}
+use Rattle.explain.specs.Told.{PieceIs, Quiet}
 use Rattle.explain.proofs.Counting.{part_small}
-use Rattle.explain.proofs.Walking.{walk_start, walk_end, walk_settled, walk_quiet, walk_halt, walk_skip, item_fits, walk_item, copies_fit, walk_copies}
+use Rattle.explain.proofs.Walking.{walk_start, walk_end, walk_settled, walk_quiet, walk_halt, walk_skip, walk_item, copies_fit, walk_copies, piece_here, piece_found}
 use Rattle.explain.proofs.elements.+places_in.Goals as goal
-use Rattle.explain.proofs.elements.+places_in.Goals.{In-Item, In-Copies}
+use Rattle.explain.proofs.elements.+places_in.Goals.{In-Ok}
 
--- the bytes of an item lie within the run
-item_within : (t : ℕ) (c : In-Item t) → c.loop-i.i + 1 + c.in-Item.past ≤ c.args.end
-item_within t c = item_fits c.loop-i.invariant c.loop-i-test.true (subst (PieceIs _ _ _) c.in-Item.is c.piece_of-p.ensures)
-
--- and those of a repeat
-copies_within : (t : ℕ) (c : In-Copies t) → (c.loop-i.i + 1 + c.in-Copies.a + c.in-Copies.n ≤ c.args.end) × (c.args.depth < 16)
-copies_within t c = copies_fit c.loop-i.invariant c.loop-i-test.true (subst (PieceIs _ _ _) c.in-Copies.is c.piece_of-p.ensures)
+-- the piece that was found
+found : (t : ℕ) (c : In-Ok t) (x : Piece) → c.in-Ok.piece ≡ x
+    → PieceIs c.args.run.depth (get_or c.args.run.message.now c.loop-i.i 0) (between c.args.run.message.now (c.loop-i.i + 1) c.args.run.end) (Ok x)
+found t c x e = piece_found _ _ _ _ _ _ c.in-Ok.piece x c.first.ensures c.behind.ensures c.in-Ok.ensures e
 
 pub loop-i-init : goal.loop-i-init
-loop-i-init t c = walk_start _ _ _ _ _ _ c.nothing-sum.ensures
+loop-i-init t c = walk_start _ _ _ _ _ _ c.default-sum.ensures
 
 pub returns-then-settled : goal.returns-then-settled
-returns-then-settled t c = walk_settled c.loop-i.invariant (c.settled.ensures c.if-settled.true)
+returns-then-settled t c = walk_settled c.loop-i.invariant (sym c.settled.ensures ∙ c.if-settled.true)
 
-pub loop-i-preserved-then-quiet-i : goal.loop-i-preserved-then-quiet-i
-loop-i-preserved-then-quiet-i t c = walk_quiet _ c.loop-i.invariant c.quiet_end-quiet.ensures
+pub loop-i-preserved-in-Some : goal.loop-i-preserved-in-Some
+loop-i-preserved-in-Some t c =
+    let q = c.in-Some.ensures in
+    walk_quiet c.args.asked _ c.loop-i.invariant (subst (λ b. Quiet c.args.run.message.now c.args.asked b c.loop-i.i c.in-Some.quiet c.args.run.end) c.is_some.ensures q.1)
 
-pub piece_of-p-requires : goal.piece_of-p-requires
-piece_of-p-requires t c = omega (arith, part_small c.args.m.now (c.loop-i.i + 1) c.args.end (omega (arith, c.loop-i-test.true, c.requires)), c.requires)
+pub piece_of-requires : goal.piece_of-requires
+piece_of-requires t c =
+    rw c.behind.ensures (omega (arith, part_small c.args.run.message.now (c.loop-i.i + 1) c.args.run.end (omega (arith, c.loop-i-test.true, c.args.run.within)), c.args.run.short))
 
-pub returns-in-Halt : goal.returns-in-Halt
-returns-in-Halt t c = walk_halt c.loop-i.invariant c.loop-i-test.true (subst (PieceIs _ _ _) c.in-Halt.is c.piece_of-p.ensures)
+pub returns-in_default-piece_of : goal.returns-in_default-piece_of
+returns-in_default-piece_of t c = walk_halt c.loop-i.invariant c.loop-i-test.true _ (piece_here _ _ _ _ _ _ (Err c.in_default-piece_of.field-0) c.first.ensures c.behind.ensures c.in_default-piece_of.ensures)
 
 pub loop-i-preserved-in-Skip : goal.loop-i-preserved-in-Skip
-loop-i-preserved-in-Skip t c = walk_skip c.loop-i.invariant c.loop-i-test.true (subst (PieceIs _ _ _) c.in-Skip.is c.piece_of-p.ensures)
-
-pub overflow_add-i : goal.overflow_add-i
-overflow_add-i t c = omega (arith, item_within t (goal.at.overflow_add-i t c).In-Item, c.requires)
+loop-i-preserved-in-Skip t c =
+    walk_skip c.loop-i.invariant c.loop-i-test.true (found t (goal.at.loop-i-preserved-in-Skip t c).In-Ok _ c.in-Skip.is)
 
 pub loop-i-preserved-in-Item : goal.loop-i-preserved-in-Item
 loop-i-preserved-in-Item t c =
-    walk_item c.loop-i.invariant c.loop-i-test.true (subst (PieceIs _ _ _) c.in-Item.is c.piece_of-p.ensures) _ _ c.one_at.ensures c.plus-sum.ensures
+    walk_item c.loop-i.invariant c.loop-i-test.true _ _ (found t (goal.at.loop-i-preserved-in-Item t c).In-Ok _ c.in-Item.is) _ _ c.one.ensures c.then-sum.ensures
 
-pub overflow_add-inner : goal.overflow_add-inner
-overflow_add-inner t c = omega (arith, (copies_within t (goal.at.overflow_add-inner t c).In-Copies).0, c.requires)
+pub inside-pattern-requires : goal.inside-pattern-requires
+inside-pattern-requires t c =
+    copies_fit c.loop-i.invariant c.loop-i-test.true _ _ (found t (goal.at.inside-pattern-requires t c).In-Ok _ c.in-Copies.is)
 
-pub overflow_add-past : goal.overflow_add-past
-overflow_add-past t c = omega (arith, (copies_within t (goal.at.overflow_add-past t c).In-Copies).0, c.requires)
-
-pub places_in-once-requires : goal.places_in-once-requires
-places_in-once-requires t c =
-    let w = copies_within t (goal.at.places_in-once-requires t c).In-Copies in
-    let a = c.loop-i.invariant.ahead in
-    (omega (arith, w.0, a, c.loop-i-test.true, c.decreases), (omega (arith, c.requires), omega (arith, w.0, c.requires), omega (arith, w.1)))
+pub places_in-requires : goal.places_in-requires
+places_in-requires t c =
+    let w = copies_fit c.loop-i.invariant c.loop-i-test.true _ _ (found t (goal.at.places_in-requires t c).In-Ok _ c.in-Copies.is) in
+    let e = c.inside-pattern.ensures in
+    (omega (arith, w.0, e.from, e.end, c.loop-i.invariant.ahead, c.decreases), tt)
 
 pub loop-i-preserved : goal.loop-i-preserved
 loop-i-preserved t c =
-    walk_copies c.loop-i.invariant c.loop-i-test.true (subst (PieceIs _ _ _) c.in-Copies.is c.piece_of-p.ensures) _ _ _ c.places_in-once.ensures c.copies.ensures c.plus-sum-in-Copies.ensures
+    let e = c.inside-pattern.ensures in
+    walk_copies c.loop-i.invariant c.loop-i-test.true _ _ (found t (goal.at.loop-i-preserved t c).In-Ok _ c.in-Copies.is)
+    c.inside-pattern.result e.message e.depth e.from e.end _ _ _ c.places_in.ensures c.times.ensures c.then-sum-in-Copies.ensures
 
 pub returns : goal.returns
 returns t c = walk_end c.loop-i.invariant (omega arith)

@@ -1,35 +1,25 @@
 -- `piece_of` meets its contract, head by head. Assumes nothing.
-use native.Mathlib.Omega.{arith}
 use mathlib.Core.Path.{sym, subst}
+use Rattle.std.specs.Prelude.{Ok}
+use Rattle.format.specs.declared.kinds.Kind.TheVariants.{Struc}
+use Rattle.explain.specs.declared.elements.Piece.TheVariants.{Item}
 use Rattle.explain.specs.Told.{PieceIs}
-use Rattle.explain.proofs.Heads.{text_fits, open_fits, piece_halt, piece_gap, piece_row, piece_sbits, piece_lbits, piece_text, piece_open}
+use Rattle.explain.proofs.Heads.{piece_row, piece_bits, piece_text, piece_open}
 use Rattle.explain.proofs.elements.piece_of.Goals as goal
 
-pub returns-in-Stop : goal.returns-in-Stop
-returns-in-Stop c = piece_halt _ _ _ _ c.head_of-h.ensures _ c.in-Stop.is
-
-pub returns-in-Gap : goal.returns-in-Gap
-returns-in-Gap c = piece_gap _ _ _ _ c.head_of-h.ensures c.in-Gap.is
-
 pub returns-in-Row : goal.returns-in-Row
-returns-in-Row c = piece_row _ _ _ _ c.head_of-h.ensures _ _ _ c.in-Row.is
+returns-in-Row c = piece_row _ _ _ c.in_ok-head.head c.in_ok-head.ensures _ _ _ c.in-Row.is
 
 pub returns-in-Sbits : goal.returns-in-Sbits
-returns-in-Sbits c = piece_sbits _ _ _ _ c.head_of-h.ensures _ _ _ c.in-Sbits.is
+returns-in-Sbits c = piece_bits _ _ _ c.in_ok-head.head c.in_ok-head.ensures _ c.in-Sbits.is
 
-pub returns-in-Lbits : goal.returns-in-Lbits
-returns-in-Lbits c = piece_lbits _ _ _ _ c.head_of-h.ensures _ _ _ c.in-Lbits.is
-
-pub overflow_add-result : goal.overflow_add-result
-overflow_add-result c = omega (arith, text_fits _ _ _ _ c.head_of-h.ensures _ _ c.in-Text.is)
+pub returns-in-Sbits-2 : goal.returns-in-Sbits-2
+returns-in-Sbits-2 c = piece_bits _ _ _ c.in_ok-head.head c.in_ok-head.ensures _ c.in-Sbits.is
 
 pub returns-in-Text : goal.returns-in-Text
-returns-in-Text c = piece_text _ _ _ _ c.head_of-h.ensures _ _ c.in-Text.is
-
-pub wrapped-requires : goal.wrapped-requires
-wrapped-requires c = omega (arith, (open_fits _ _ _ _ c.head_of-h.ensures _ _ _ c.in-Open.is).1)
+returns-in-Text c =
+    subst (λ u. PieceIs c.args.depth c.args.b c.args.s.now (Ok (Item Struc u))) (sym c.end.ensures) (piece_text _ _ _ c.in_ok-head.head c.in_ok-head.ensures _ c.in-Text.is)
 
 pub returns-in-Open : goal.returns-in-Open
 returns-in-Open c =
-    subst (PieceIs _ _ _) (sym c.wrapped.ensures)
-    (piece_open _ _ _ _ c.head_of-h.ensures _ _ _ c.in-Open.is)
+    subst (λ p. PieceIs c.args.depth c.args.b c.args.s.now (Ok p)) (sym c.wrapped.ensures) (piece_open _ _ _ c.in_ok-head.head c.in_ok-head.ensures _ _ c.in-Open.is)

@@ -1,52 +1,43 @@
 -- `evidence_at` meets its contract, head by head. Assumes nothing.
 use native.Mathlib.Omega.{arith}
-use Prim.Native.Nat.{◌+◌, ◌≤◌, ◌<◌}
+use Prim.Native.Nat.{◌+◌}
+use Rattle.std.specs.Prelude.{Ok, Err}
+use Rattle.wire.specs.Heads.{HeadIs}
+use Rattle.wire.specs.declared.head.Head.{Head}
+use mathlib.Core.Path.{◌≡◌, refl, subst}
+use Rattle.explain.specs.Told.{behind_of, head_in}
 use Rattle.explain.proofs.Counting.{part_small}
 use Rattle.explain.proofs.Heads.{open_fits}
-use Rattle.explain.proofs.Sites.{stops_at, site_stop, site_gap, site_row, site_sbits, site_lbits, site_text, site_open, opened_within}
+use Rattle.explain.proofs.Sites.{head_handed, site_stop, site_given, opened_within, site_open}
 use Rattle.explain.proofs.site.evidence_at.Goals as goal
-use Rattle.explain.proofs.site.evidence_at.Goals.{In-Open}
+use Rattle.explain.proofs.site.evidence_at.Goals.{In-Err, In-Ok, In-Open}
 
--- a container's contents lie within the bytes
-within : (c : In-Open) → (c.args.at + 1 + c.in-Open.a + c.in-Open.n ≤ c.args.end) × (c.args.depth < 16)
-within c = opened_within _ _ _ _ c.requires.2 _ _ _ (open_fits _ _ _ _ c.head_of-h.ensures _ _ _ c.in-Open.is)
+stops : (c : In-Err) → HeadIs (behind_of c.args.object) (Err c.in-Err.f) (head_in c.args.object)
+stops c = head_handed _ _ _ _ _ _ (Err c.in-Err.f) c.first.ensures c.behind.ensures c.in-Err.ensures
+
+says : (c : In-Ok) (x : Head) → c.in-Ok.head ≡ x → HeadIs (behind_of c.args.object) (Ok x) (head_in c.args.object)
+says c x e = subst (λ y. HeadIs (behind_of c.args.object) (Ok y) (head_in c.args.object)) e (head_handed _ _ _ _ _ _ (Ok c.in-Ok.head) c.first.ensures c.behind.ensures c.in-Ok.ensures)
+
+pub head_of-requires : goal.head_of-requires
+head_of-requires c =
+    rw c.behind.ensures (omega (arith, part_small c.args.object.message.now (c.args.object.from + 1) c.args.object.end (omega (arith, c.requires, c.args.object.within)), c.args.object.short))
 
 pub stopped_at-requires : goal.stopped_at-requires
-stopped_at-requires c =
-    record { m_len_bound = (c.requires.0, c.requires.1, c.requires.2); end_value = stops_at _ _ _ _ _ c.head_of-h.ensures _ c.in-Stop.is }
+stopped_at-requires c = (c.requires, stops c)
 
-pub returns-in-Stop : goal.returns-in-Stop
-returns-in-Stop c = site_stop _ _ _ _ _ c.head_of-h.ensures _ c.in-Stop.is _ c.stopped_at.ensures
+pub returns-in-Err : goal.returns-in-Err
+returns-in-Err c = site_stop _ _ _ _ c.in-Err.f (stops (goal.at.returns-in-Err c).In-Err) _ c.stopped_at.ensures
 
-pub returns-in-Gap : goal.returns-in-Gap
-returns-in-Gap c = site_gap _ _ _ _ _ c.head_of-h.ensures c.in-Gap.is
-
-pub returns-in-Row : goal.returns-in-Row
-returns-in-Row c = site_row _ _ _ _ _ c.head_of-h.ensures _ _ _ c.in-Row.is
-
-pub returns-in-Sbits : goal.returns-in-Sbits
-returns-in-Sbits c = site_sbits _ _ _ _ _ c.head_of-h.ensures _ _ _ c.in-Sbits.is
-
-pub returns-in-Lbits : goal.returns-in-Lbits
-returns-in-Lbits c = site_lbits _ _ _ _ _ c.head_of-h.ensures _ _ _ c.in-Lbits.is
-
-pub returns-in-Text : goal.returns-in-Text
-returns-in-Text c = site_text _ _ _ _ _ c.head_of-h.ensures _ _ c.in-Text.is
+pub inside-requires : goal.inside-requires
+inside-requires c = (
+  opened_within _ _ _ _ c.in-Open.w c.in-Open.e (says (goal.at.inside-requires c).In-Ok _ c.in-Open.is) c.requires,
+  (open_fits _ _ _ c.in-Ok.head c.in-Ok.ensures c.in-Open.w c.in-Open.e c.in-Open.is).2,
+)
 
 pub returns-in-Open : goal.returns-in-Open
-returns-in-Open c = site_open _ _ _ _ _ c.head_of-h.ensures _ _ _ c.in-Open.is _ c.closed_at.ensures
+returns-in-Open c =
+    let e = c.inside.ensures in
+    site_open _ _ _ _ c.in-Open.w c.in-Open.e (says (goal.at.returns-in-Open c).In-Ok _ c.in-Open.is) c.inside.result e.message e.depth e.from e.end _ c.closed_at.ensures
 
-pub head_of-h-requires : goal.head_of-h-requires
-head_of-h-requires c = omega (arith, part_small c.args.m.now (c.args.at + 1) c.args.end (omega (arith, c.requires)), c.requires)
-
-pub overflow_add-from : goal.overflow_add-from
-overflow_add-from c = omega (arith, (within (goal.at.overflow_add-from c).In-Open).0, c.requires)
-
-pub overflow_add-past : goal.overflow_add-past
-overflow_add-past c = omega (arith, (within (goal.at.overflow_add-past c).In-Open).0, c.requires)
-
-pub overflow_add-depth : goal.overflow_add-depth
-overflow_add-depth c = omega (arith, (within (goal.at.overflow_add-depth c).In-Open).1)
-
-pub closed_at-requires : goal.closed_at-requires
-closed_at-requires c = (c.requires.0, omega (arith, (within (goal.at.closed_at-requires c).In-Open).0, c.requires.1), omega arith, omega (arith, (within (goal.at.closed_at-requires c).In-Open).1))
+pub returns-in_default : goal.returns-in_default
+returns-in_default c = site_given _ _ _ _ c.in-Ok.head (says (goal.at.returns-in_default c).In-Ok _ refl) c.in_default.not-Open

@@ -6,27 +6,32 @@ use Rattle.format.specs.Answers.{over}
 use Rattle.fill.proofs.bits.put_bits.Goals as goal
 
 pub loop-j-init : goal.loop-j-init
-unfolding over packed words_for
-loop-j-init c = (refl, omega arith, refl, refl)
+unfolding over packed
+loop-j-init c = (refl, refl)
+
+pub bounds-table-j : goal.bounds-table-j
+unfolding words_for
+bounds-table-j c = omega arith
 
 pub word_of-requires : goal.word_of-requires
 unfolding bytes_for words_for
 word_of-requires c =
-    let e = c.least.ensures in
+    let e = c.min.ensures in
     (omega arith, omega arith, simp (length-take, length-drop) (omega arith))
 
 pub loop-j-preserved : goal.loop-j-preserved
 unfolding words_for
 loop-j-preserved c =
-    let e = c.least.ensures in
+    let e = c.min.ensures in
     let s = c.args.c.now in
     let q = c.word_of.ensures ∙ ap (λ m. adjusted 64 (take m (spread 8 (take (length s - 8 * c.loop-j.j) (drop (8 * c.loop-j.j) s))))) e in
-    (refl, omega arith, simp length-set c.loop-j.invariant.2, word_turn s c.args.n c.args.table.now c.loop-j.table c.loop-j.j _ (omega arith) c.loop-j.invariant.3 q)
+    (simp length-set c.loop-j.invariant.0, word_turn s c.args.n c.args.table.now c.loop-j.table c.loop-j.j _ (omega arith) c.loop-j.invariant.1 q)
 
 pub returns : goal.returns
+unfolding words_for
 returns c =
     let e : c.loop-j.j ≡ words_for c.args.n = omega arith in
-    c.loop-j.invariant.3 ∙ ap (λ j. over (packed 64 j (take c.args.n (spread 8 c.args.c.now))) c.args.table.now) e
+    c.loop-j.invariant.1 ∙ ap (λ j. over (packed 64 j (take c.args.n (spread 8 c.args.c.now))) c.args.table.now) e
 
 pub slice_bounds-word_of-count : goal.slice_bounds-word_of-count
 slice_bounds-word_of-count c = unfold bytes_for words_for in omega arith

@@ -1,10 +1,7 @@
-use Rattle.std.proofs.Common.{◌≡◌, ◌-◌, ◌≤◌, length, take}
-use Rattle.format.specs.Bits.{spread, packed, words_for}
+use Rattle.std.proofs.Common.{◌≡◌, length, take}
+use Rattle.format.specs.Bits.{spread, packed}
 use Rattle.format.specs.Answers.{over}
 use Rattle.fill.proofs.bits.put_bits.Given as goal
 
 abbrev pub invariant-loop-j : goal.invariant-loop-j
-invariant-loop-j l = (l.words ≡ words_for l.n) × (l.j ≤ l.words) × (length l.table ≡ length l.initial.table) × (l.table ≡ over (packed 64 l.j (take l.n (spread 8 l.c))) l.initial.table)
-
-abbrev pub decreases-loop-j : goal.decreases-loop-j
-decreases-loop-j l = l.words - l.j
+invariant-loop-j l = (length l.table ≡ length l.initial.table) × (l.table ≡ over (packed 64 l.j (take l.n (spread 8 l.c))) l.initial.table)

@@ -7,4 +7,4 @@ pub returns-then-r-eq0 : goal.returns-then-r-eq0
 returns-then-r-eq0 c = eight_whole _ _ _ c.if-r-eq0.true refl
 
 pub returns : goal.returns
-returns c = eight_parts _ _ _ (omega arith) c.wrapping_add_u64.ensures.value
+returns c = eight_parts _ _ _ (omega arith) refl

@@ -4,6 +4,4 @@ use Rattle.fill.proofs.LowBytes.{low_some}
 use Rattle.fill.proofs.codes.low_some.Goals as goal
 
 pub returns : goal.returns
-returns c =
-    let p = c.requires in
-    low_some _ _ _ (λ j. omega (arith, c.type_inv.c j)) p.1 p.2 c.number.ensures.0
+returns c = low_some _ _ (λ j. omega (arith, c.type_inv.c j)) c.requires.1 c.number.ensures.0

@@ -11,9 +11,9 @@ returns-then-r-eq0 c =
 pub returns-then-r-k-gt64 : goal.returns-then-r-k-gt64
 returns-then-r-k-gt64 c =
     let p = c.requires in
-    put_two _ _ _ _ p.0 p.1 p.2 (omega arith) _ _ c.wrapping_add_u64.ensures.value refl
+    put_two _ _ _ _ p.0 p.1 p.2 (omega arith) _ _ refl refl
 
 pub returns-else-r-k-gt64 : goal.returns-else-r-k-gt64
 returns-else-r-k-gt64 c =
     let p = c.requires in
-    put_old _ _ _ _ p.0 p.1 p.2 (omega arith) (omega arith) _ c.wrapping_add_u64.ensures.value
+    put_old _ _ _ _ p.0 p.1 p.2 (omega arith) (omega arith) _ refl

@@ -1,6 +1,6 @@
 -- The loop's invariant: the words so far stand again. Assumes nothing.
 use Rattle.std.proofs.Common.{refl, arith}
-use Rattle.fill.proofs.Doubling.{taking_start, taking_step, taking_end}
+use Rattle.fill.proofs.Doubling.{taking_start, taking_step}
 use Rattle.fill.proofs.copies.copy_plain.Goals as goal
 
 pub loop-i-preserved : goal.loop-i-preserved
@@ -10,6 +10,3 @@ loop-i-preserved c =
 
 pub loop-i-init : goal.loop-i-init
 loop-i-init c = taking_start _ _ _
-
-pub returns : goal.returns
-returns c = taking_end _ _ _ _ _ (omega arith) c.loop-i.invariant

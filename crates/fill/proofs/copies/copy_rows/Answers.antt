@@ -1,7 +1,6 @@
 -- Rows without data words are copied as they stand, one of them in its own way, and any other rows are rebased. Assumes nothing.
 use Rattle.std.proofs.Common.{ℕ, ◌<◌, get_or, arith}
-use Rattle.fill.proofs.AgainLaws.{at_least}
-use Rattle.fill.proofs.RowFill.{one_room, one_goal, plain_room, plain_goal}
+use Rattle.fill.proofs.RowFill.{plain_goal}
 use Rattle.fill.proofs.copies.copy_rows.Goals as goal
 use Rattle.fill.proofs.copies.copy_rows.Goals.{Else-rows-eq1}
 
@@ -9,21 +8,7 @@ use Rattle.fill.proofs.copies.copy_rows.Goals.{Else-rows-eq1}
 words_at : (c : Else-rows-eq1) (i : ℕ) → get_or c.args.table.now i 0 < 18446744073709551616
 words_at c i = omega (arith, c.type_inv.table i)
 
-pub returns-then-rows-eq1 : goal.returns-then-rows-eq1
-returns-then-rows-eq1 c =
-    let z = c.if-words-eq0.true in
-    one_goal c.args.words c.args.rows c.args.k c.args.table.now _ c.if-rows-eq1.true z c.copy_row.ensures
-
 pub returns-then-words-eq0 : goal.returns-then-words-eq0
 returns-then-words-eq0 c =
     let z = c.if-words-eq0.true in
     plain_goal c.args.words c.args.rows c.args.k c.args.table.now _ z (words_at (goal.at.returns-then-words-eq0 c).Else-rows-eq1) c.copy_words.ensures
-
-pub copy_row-requires : goal.copy_row-requires
-copy_row-requires c = (c.requires.0, one_room c.args.rows c.args.k _ c.if-rows-eq1.true c.requires.1)
-
-pub overflow_mul-rows : goal.overflow_mul-rows
-overflow_mul-rows c = omega (arith, c.requires.1, at_least c.args.k c.args.rows c.requires.0)
-
-pub copy_words-requires : goal.copy_words-requires
-copy_words-requires c = (c.requires.0, plain_room c.args.rows c.args.k _ c.requires.1)

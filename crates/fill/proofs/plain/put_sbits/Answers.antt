@@ -7,10 +7,10 @@ pub returns-then-n-eq0 : goal.returns-then-n-eq0
 returns-then-n-eq0 c =
     let r = c.put_row.ensures in
     let p = c.requires.2 in
-    none_put _ _ _ _ _ _ p _ r _ c.following_of.ensures.0 _ c.if-n-eq0.true c.one_item.ensures
+    none_put _ _ _ _ _ _ p _ r _ c.following_of.ensures.0 _ c.if-n-eq0.true (rw c.item.ensures at c.past.ensures)
 
-pub bounds-table-gap : goal.bounds-table-gap
-bounds-table-gap c =
+pub bounds-table-data : goal.bounds-table-data
+bounds-table-data c =
     omega (arith, word_place _ _ _ _ c.if-n-eq0.false c.requires.3, c.put_row.auto.table)
 
 pub returns : goal.returns
@@ -18,4 +18,5 @@ returns c =
     let p = c.requires in
     let r = c.put_row.ensures in
     let w = word_place _ _ _ _ c.if-n-eq0.false p.3 in
-    one_put _ _ _ _ _ _ p.2 _ r _ c.following_of-2.ensures.0 _ (omega arith) p.0 w c.one_item-2.ensures _ c.sbits_word.ensures
+    rw c.data.ensures
+    (one_put _ _ _ _ _ _ p.2 _ r _ c.following_of-2.ensures.0 _ (omega arith) p.0 w (rw c.item-2.ensures at c.past-2.ensures) _ c.sbits_word.ensures)

@@ -1,6 +1,6 @@
--- Three stores are a row behind what is there. Assumes nothing.
-use Rattle.format.proofs.Over.{set_three}
+-- A row at the front of the part from there on. Assumes nothing.
+use Rattle.format.proofs.Over.{lent}
 use Rattle.fill.proofs.stretch.put_at.Goals as goal
 
 pub returns : goal.returns
-returns c = set_three _ _ _ _ _ c.requires
+returns c = lent _ _ _ _ c.put_row.ensures

@@ -10,11 +10,11 @@ integer_of-requires c =
     let f = following_range c.args.b in
     (omega arith, simp (length-take, length-drop) (omega arith), omega arith)
 
-pub loop-table-preserved : goal.loop-table-preserved
-loop-table-preserved c =
+pub loop-rows-preserved : goal.loop-rows-preserved
+loop-rows-preserved c =
     let z = c.integer_of in
-    let w = handed_word _ z.result _ z.type_inv z.ensures c.word_of.ensures in
-    stretched_long c.loop-table.invariant (omega arith) (omega arith) _ _ _ c.requires.2 (omega arith) (omega arith) w c.put_at.ensures
+    let w = handed_word _ z.result _ z.type_inv z.ensures c.word_of-value.ensures in
+    stretched_long c.loop-rows.invariant (omega arith) (omega arith) _ _ _ c.requires.2 (omega arith) (omega arith) w c.put_at.ensures
 
-pub loop-table-init : goal.loop-table-init
-loop-table-init c = let p = c.requires in stretched_none _ _ _ _ p.0 p.1
+pub loop-rows-init : goal.loop-rows-init
+loop-rows-init c = let p = c.requires in stretched_none _ _ _ _ p.0 p.1

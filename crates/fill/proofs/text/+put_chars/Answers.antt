@@ -1,49 +1,45 @@
 -- The walk that writes the codes of a run that says only CHARs; the bytes left fall at each call. The loop's invariant: the codes of
 -- the objects passed stand there. Assumes nothing.
-use Rattle.std.proofs.Common.{ℕ, ◌+◌, ◌-◌, ◌*◌, ◌≤◌, length, get_or, arith, length-drop, length-take}
-use Rattle.fill.proofs.StringLaws.{char_is, char_not, byte_is, byte_not, PatternAt, pattern_end}
-use Rattle.fill.proofs.Spelling.{spelling_start, spelling_end, plain_fits, plain_turn, gap_turn, never, none_turn, pattern_room, copies_fit, times_turn}
+use Rattle.std.proofs.Common.{ℕ, ◌+◌, ◌-◌, ◌*◌, ◌≤◌, length, arith}
+use Rattle.fill.proofs.StringLaws.{char_is, char_not, gap_is, gap_not, PatternAt, pattern_shorter}
+use Rattle.fill.proofs.Spelling.{spelling_start, spelling_end, plain_fits, plain_turn, gap_turn, never_stop, never, none_turn, pattern_room, copies_fit, times_turn}
 use Rattle.fill.proofs.text.+put_chars.Goals as goal
-use Rattle.fill.proofs.text.+put_chars.Goals.{In-Open, After-put_chars}
+use Rattle.fill.proofs.text.+put_chars.Goals.{In-Open, After-put_chars, then-k-gt0, else-k-gt0}
 
 -- a repeat, by its head, and what its copies ask once its pattern is put
-pattern_at : (t : ℕ) (c : In-Open t) → PatternAt c.args.depth c.args.s.now c.loop-i.i c.in-Open.w c.in-Open.a c.in-Open.n
-pattern_at t c =
-    let h = rw c.in-Open.is at c.head_of-h.ensures in
-    record { here = c.loop-i-test.true; head = h }
+pattern_at : (t : ℕ) (c : In-Open t) → PatternAt c.args.depth c.args.s.now c.loop-i.i c.in-Open.w c.in-Open.inner
+pattern_at t c = record { here = c.loop-i-test.true; head = rw c.in-Open.is at c.in-Ok.ensures }
 
 copies_at : (t : ℕ) (c : After-put_chars t)
     → let to = c.loop-i.to in
     let e = to + c.copies_of-k.result * (c.put_chars.result - to) in
     (to ≤ c.put_chars.result) × (e ≤ 8 * length c.put_chars.new.table) × (e ≤ 131072)
 copies_at t c =
-    let h = rw c.in-Open.is at c.head_of-h.ensures in
-    let q : PatternAt c.args.depth c.args.s.now c.loop-i.i c.in-Open.w c.in-Open.a c.in-Open.n = record { here = c.loop-i-test.true; head = h } in
-    copies_fit c.loop-i.invariant q c.copies_of-k.ensures (omega arith) c.put_chars.auto.table c.put_chars.ensures
+    let p : PatternAt c.args.depth c.args.s.now c.loop-i.i c.in-Open.w c.in-Open.inner = record { here = c.loop-i-test.true; head = rw c.in-Open.is at c.in-Ok.ensures } in
+    copies_fit c.loop-i.invariant p c.copies_of-k.ensures (omega arith) c.put_chars.auto.table (rw c.contents.ensures at c.put_chars.ensures)
 
 pub loop-i-init : goal.loop-i-init
 loop-i-init t c = spelling_start c.requires.1
 
 pub put_low-requires : goal.put_low-requires
-put_low-requires t c = plain_fits c.loop-i.invariant _ (char_is _ _ c.is_char.ensures c.if-is_char.true) c.chars_end-end.ensures
+put_low-requires t c = plain_fits c.loop-i.invariant _ (char_is c.in-Char7.ensures) c.chars_end-end.ensures
 
-pub loop-i-preserved-then-is_char : goal.loop-i-preserved-then-is_char
-loop-i-preserved-then-is_char t c =
-    let b = char_is _ _ c.is_char.ensures c.if-is_char.true in
-    plain_turn c.loop-i.invariant _ b c.chars_end-end.ensures c.put_low.auto.table c.put_low.ensures
+pub loop-i-preserved-in-Char7 : goal.loop-i-preserved-in-Char7
+loop-i-preserved-in-Char7 t c =
+    plain_turn c.loop-i.invariant _ (char_is c.in-Char7.ensures) c.chars_end-end.ensures c.put_low.auto.table c.put_low.ensures
 
-pub loop-i-preserved-then-is_padding : goal.loop-i-preserved-then-is_padding
-loop-i-preserved-then-is_padding t c =
-    let b = byte_is _ _ _ c.is_padding.ensures c.if-is_padding.true in
-    gap_turn c.loop-i.invariant b c.padding_end-i.ensures
+pub loop-i-preserved-in-Padding : goal.loop-i-preserved-in-Padding
+loop-i-preserved-in-Padding t c =
+    let b = c.type_inv.s c.loop-i.i in
+    gap_turn c.loop-i.invariant (gap_is (omega arith) c.in-Padding.ensures) c.padding_end-i.ensures
 
 pub put_chars-requires : goal.put_chars-requires
 put_chars-requires t c =
     let k = pattern_at t (goal.at.put_chars-requires t c).In-Open in
-    let f = pattern_end k in
+    let f = pattern_shorter k in
     let p = c.requires in
-    let r = pattern_room c.loop-i.invariant k c.copies_of-k.ensures (omega arith) in
-    (simp (length-take, length-drop) (omega arith), (simp (length-take, length-drop) (omega arith), r))
+    let m = c.decreases in
+    rw c.contents.ensures (omega arith, (omega arith, pattern_room c.loop-i.invariant k c.copies_of-k.ensures (omega arith)))
 
 pub copy_codes-requires : goal.copy_codes-requires
 copy_codes-requires t c = let f = copies_at t (goal.at.copy_codes-requires t c).After-put_chars in (omega arith, f.1, f.2)
@@ -54,26 +50,30 @@ overflow_mul-to t c = omega (arith, (copies_at t (goal.at.overflow_mul-to t c).A
 pub overflow_add-to-then-k-gt0 : goal.overflow_add-to-then-k-gt0
 overflow_add-to-then-k-gt0 t c = omega (arith, (copies_at t (goal.at.overflow_add-to-then-k-gt0 t c).After-put_chars).2)
 
-pub loop-i-preserved-then-k-gt0 : goal.loop-i-preserved-then-k-gt0
-loop-i-preserved-then-k-gt0 t c =
-    let k = pattern_at t (goal.at.loop-i-preserved-then-k-gt0 t c).In-Open in
-    let p = c.put_chars in
-    let d = c.copy_codes in
-    times_turn c.loop-i.invariant k c.copies_of-k.ensures (omega arith) p.auto.table p.ensures d.auto.table d.ensures
-
 pub loop-i-preserved : goal.loop-i-preserved
 loop-i-preserved t c =
-    none_turn c.loop-i.invariant (pattern_at t (goal.at.loop-i-preserved t c).In-Open) (omega (arith, c.copies_of-k.ensures))
+    let v = c.loop-i.invariant in
+    let k = pattern_at t (goal.at.loop-i-preserved t c).In-Open in
+    let e = c.copies_of-k.ensures in
+    elim c.if-k-gt0.branch [
+      | then-k-gt0 w ↦ rw (w.table-is, w.to-is)
+          (times_turn v k e (omega arith) w.put_chars.auto.table (rw w.contents.ensures at w.put_chars.ensures) w.copy_codes.auto.table w.copy_codes.ensures c.end.ensures)
+      | else-k-gt0 w ↦ rw (w.table-is, w.to-is) (none_turn v k c.end.ensures (omega arith))
+    ]
 
-pub returns-in_default : goal.returns-in_default
-returns-in_default t c =
-    let i = c.loop-i.i in
-    let s = c.args.s.now in
-    let h = c.head_of-h in
-    let b = c.type_inv.s i in
-    let n = char_not (get_or s i 0) _ c.is_char.ensures c.if-is_char.false in
-    let g = byte_not (get_or s i 0) 0xff _ c.is_padding.ensures c.if-is_padding.false in
-    absurd (never c.loop-i.invariant c.loop-i-test.true n (omega (arith, b, g)) h.result c.in_default.not-Open h.ensures)
+pub unreachable-requires : goal.unreachable-requires
+unreachable-requires t c =
+    let b = c.type_inv.s c.loop-i.i in
+    let e = c.class_of.ensures in
+    let n = c.in_default in
+    never_stop c.loop-i.invariant c.loop-i-test.true (char_not e n.not-Char7) (gap_not e (omega arith) n.not-Padding) _ c.in_default-head_of.ensures
+
+pub unreachable-requires-in_default-h : goal.unreachable-requires-in_default-h
+unreachable-requires-in_default-h t c =
+    let b = c.type_inv.s c.loop-i.i in
+    let e = c.class_of.ensures in
+    let n = c.in_default in
+    never c.loop-i.invariant c.loop-i-test.true (char_not e n.not-Char7) (gap_not e (omega arith) n.not-Padding) _ c.in_default-h.not-Open c.in-Ok.ensures
 
 pub returns : goal.returns
 returns t c = spelling_end c.loop-i.invariant c.loop-i-test.false

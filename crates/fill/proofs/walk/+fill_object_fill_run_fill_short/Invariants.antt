@@ -3,7 +3,7 @@ use Rattle.fill.proofs.WalkLaws.{WalkInv}
 use Rattle.fill.proofs.walk.+fill_object_fill_run_fill_short.Given as goal
 
 abbrev pub invariant-fill_run-loop-i : goal.invariant-fill_run-loop-i
-invariant-fill_run-loop-i l = WalkInv l.depth l.s l.base l.gap l.initial.table l.table l.i l.rows l.count l.words
+invariant-fill_run-loop-i l = WalkInv l.depth l.s l.place.base l.place.gap l.initial.table l.table l.i l.done.rows l.done.count l.done.words
 
 abbrev pub decreases-fill_run-loop-i : goal.decreases-fill_run-loop-i
 decreases-fill_run-loop-i l = length l.s - l.i

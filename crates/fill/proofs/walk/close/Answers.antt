@@ -32,14 +32,8 @@ copy_words-requires c =
     let p = room (goal.at.copy_words-requires c).In-Repeat in
     (p.0, rw (part_length c.args.at r.new.table) (omega (arith, p.2, r.auto.table)))
 
-pub overflow_mul-result : goal.overflow_mul-result
-overflow_mul-result c = let p = room (goal.at.overflow_mul-result c).In-Repeat in omega (arith, p.1, p.2)
-
-pub overflow_mul-result-in-Repeat : goal.overflow_mul-result-in-Repeat
-overflow_mul-result-in-Repeat c = let p = room (goal.at.overflow_mul-result-in-Repeat c).In-Repeat in omega (arith, p.3)
-
-pub overflow_mul-result-in-Repeat-2 : goal.overflow_mul-result-in-Repeat-2
-overflow_mul-result-in-Repeat-2 c = let p = room (goal.at.overflow_mul-result-in-Repeat-2 c).In-Repeat in omega (arith, p.4)
+pub times-requires : goal.times-requires
+times-requires c = let p = room (goal.at.times-requires c).In-Repeat in (omega (arith, p.1, p.2), omega (arith, p.3), omega (arith, p.4))
 
 pub put_group-requires : goal.put_group-requires
 put_group-requires c = (grouped_at (goal.at.put_group-requires c).In_default).2 c.requires
@@ -49,7 +43,7 @@ unfolding closed_table closed_sums
 returns-in-Repeat c =
     let p = room (goal.at.returns-in-Repeat c).In-Repeat in
     let q = c.copy_rows.ensures in
-    rw c.in-Repeat.is
+    rw (c.in-Repeat.is, c.times.ensures)
     (refl, copied_table _ _ _ _ c.args.table.now _ _ p.0 p.1 (omega (arith, p.2)) q c.copy_words.ensures)
 
 pub returns-in_default : goal.returns-in_default

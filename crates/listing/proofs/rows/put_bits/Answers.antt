@@ -1,36 +1,31 @@
 -- `listing::rows::put_bits` meets its contract: the number of bits, then nothing, or a space and the bits. Assumes nothing.
-use mathlib.Core.Path.{ap, ◌∙◌}
 use native.Mathlib.Omega.{arith}
-use lib.ListN.{length, length-set, length-append}
-use Rattle.table.proofs.RowData.{bits_at}
-use Rattle.listing.proofs.Putting.{then, byte, wrote_length}
-use Rattle.listing.proofs.RowLines.{bits_none, bits_some, bits_long}
+use Rattle.listing.proofs.Putting.{then, fits_first, fits_byte, fits_next}
+use Rattle.listing.proofs.RowLines.{bits_row, value_is, bits_none, bits_some}
 use Rattle.listing.proofs.rows.put_bits.Goals as goal
 
-pub put_decimal-n-requires : goal.put_decimal-n-requires
-put_decimal-n-requires c =
-    let l = bits_long _ _ (bits_at _ _ c.requires.leaf_at.0 c.requires.leaf_at.1) in
-    omega (arith, c.requires.p_in_bounds)
+pub decimal-requires : goal.decimal-requires
+decimal-requires c = rw c.a-bits.ensures (fits_first _ (rw (value_is _ _ (bits_row _ _ c.requires.bits.0 c.requires.bits.1)) at c.requires.room))
 
-pub returns-then-bits-eq0 : goal.returns-then-bits-eq0
-returns-then-bits-eq0 c =
-    rw (bits_none _ _ (bits_at _ _ c.requires.leaf_at.0 c.requires.leaf_at.1) c.if-bits-eq0.true) c.put_decimal-n.ensures
-
-pub bounds-out-n : goal.bounds-out-n
-bounds-out-n c =
-    let e = simp length-append at (ap length (bits_some _ _ (bits_at _ _ c.requires.leaf_at.0 c.requires.leaf_at.1) (omega arith))) in
-    omega (arith, c.requires.p_in_bounds)
+pub byte-requires : goal.byte-requires
+byte-requires c =
+    let d = rw c.a-bits.ensures at c.decimal.ensures in
+    fits_byte (fits_next d (rw (bits_some _ _ (bits_row _ _ c.requires.bits.0 c.requires.bits.1) (omega arith)) at c.requires.room))
 
 pub put_stream-requires : goal.put_stream-requires
 put_stream-requires c =
-    let e = simp length-append at (ap length (bits_some _ _ (bits_at _ _ c.requires.leaf_at.0 c.requires.leaf_at.1) (omega arith))) in
-    record { leaf_at = c.requires.leaf_at; p_in_bounds = simp length-set (omega (arith, c.requires.p_in_bounds)) }
+    let d = rw c.a-bits.ensures at c.decimal.ensures in
+    record {
+      bits = c.requires.bits;
+      room = fits_next c.byte.ensures (fits_next d (rw (bits_some _ _ (bits_row _ _ c.requires.bits.0 c.requires.bits.1) (omega arith)) at c.requires.room));
+    }
 
-pub shape_of-out : goal.shape_of-out
-shape_of-out c = wrote_length c.put_stream.ensures ∙ simp length-set (omega arith)
+pub returns-then-bits-gt0 : goal.returns-then-bits-gt0
+returns-then-bits-gt0 c =
+    let d = rw c.a-bits.ensures at c.decimal.ensures in
+    rw (bits_some _ _ (bits_row _ _ c.requires.bits.0 c.requires.bits.1) (omega arith)) (then d (then c.byte.ensures c.put_stream.ensures))
 
-pub returns : goal.returns
-returns c =
-    let r = bits_at _ _ c.requires.leaf_at.0 c.requires.leaf_at.1 in
-    let e = simp length-append at (ap length (bits_some _ _ r (omega arith))) in
-    rw (bits_some _ _ r (omega arith)) (then c.put_decimal-n.ensures (then (byte c.put_decimal-n.result 0x20 c.put_decimal-n.new.out (omega (arith, c.requires.p_in_bounds))) c.put_stream.ensures))
+pub returns-else-bits-gt0 : goal.returns-else-bits-gt0
+returns-else-bits-gt0 c =
+    let d = rw c.a-bits.ensures at c.decimal.ensures in
+    rw (bits_none _ _ (bits_row _ _ c.requires.bits.0 c.requires.bits.1) (omega arith)) d

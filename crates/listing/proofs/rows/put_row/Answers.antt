@@ -1,28 +1,32 @@
 -- `listing::rows::put_row` meets its contract: depth, kind, value and newline, one behind the other. Assumes nothing.
-use native.Mathlib.Omega.{arith}
-use Rattle.listing.specs.RowTexts.{row_text}
-use Rattle.listing.proofs.Putting.{then, byte}
-use Rattle.listing.proofs.RowLines.{row_length}
+use Rattle.table.specs.Rows.{kind_at}
+use Rattle.listing.specs.Puts.{Put}
+use Rattle.listing.specs.RowTexts.{kind_word, row_text}
+use Rattle.listing.proofs.Putting.{then, fits_first, fits_next}
 use Rattle.listing.proofs.rows.put_row.Goals as goal
 
-pub put_decimal-n-requires : goal.put_decimal-n-requires
-put_decimal-n-requires c =
-    omega (arith, row_length c.args.table.now c.args.p c.args.depth, c.requires.p_in_bounds)
+pub decimal-requires : goal.decimal-requires
+unfolding row_text
+decimal-requires c = fits_first _ c.requires.room
 
-pub put_word-n-requires : goal.put_word-n-requires
-put_word-n-requires c =
-    omega (arith, row_length c.args.table.now c.args.p c.args.depth, c.requires.p_in_bounds)
+pub text-requires : goal.text-requires
+unfolding row_text
+text-requires c = rw (c.kind_text.ensures, c.kind-kind.ensures) (fits_first _ (fits_next c.decimal.ensures c.requires.room))
 
-pub put_value-n-requires : goal.put_value-n-requires
-put_value-n-requires c =
-    record { row_in_order = c.requires.row_in_order; p_in_bounds = omega (arith, row_length c.args.table.now c.args.p c.args.depth, c.requires.p_in_bounds) }
+pub put_value-requires : goal.put_value-requires
+unfolding row_text
+put_value-requires c =
+    let k : Put (kind_word (kind_at c.args.row.now.table.now c.args.row.now.p)) c.decimal.new.self c.text.new.self = rw (c.kind_text.ensures, c.kind-kind.ensures) at c.text.ensures in
+    record { in_order = (c.requires.in_order, c.kind-kind.ensures); room = fits_first _ (fits_next k (fits_next c.decimal.ensures c.requires.room)) }
 
-pub bounds-out-n : goal.bounds-out-n
-bounds-out-n c =
-    omega (arith, row_length c.args.table.now c.args.p c.args.depth, c.requires.p_in_bounds)
+pub byte-requires : goal.byte-requires
+unfolding row_text
+byte-requires c =
+    let k : Put (kind_word (kind_at c.args.row.now.table.now c.args.row.now.p)) c.decimal.new.self c.text.new.self = rw (c.kind_text.ensures, c.kind-kind.ensures) at c.text.ensures in
+    fits_next c.put_value.ensures (fits_next k (fits_next c.decimal.ensures c.requires.room))
 
 pub returns : goal.returns
 unfolding row_text
 returns c =
-    let h = row_length c.args.table.now c.args.p c.args.depth in
-    then c.put_decimal-n.ensures (then c.put_word-n.ensures (then c.put_value-n.ensures (byte c.put_value-n.result 0x0a c.put_value-n.new.out (omega (arith, c.requires.p_in_bounds)))))
+    let k : Put (kind_word (kind_at c.args.row.now.table.now c.args.row.now.p)) c.decimal.new.self c.text.new.self = rw (c.kind_text.ensures, c.kind-kind.ensures) at c.text.ensures in
+    then c.decimal.ensures (then k (then c.put_value.ensures c.byte.ensures))

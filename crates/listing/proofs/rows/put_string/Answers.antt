@@ -1,21 +1,16 @@
 -- `listing::rows::put_string` meets its contract: the number of characters, and then their codes. Assumes nothing.
-use mathlib.Core.Path.{ap}
-use native.Mathlib.Omega.{arith}
-use lib.ListN.{length, length-append}
-use Rattle.listing.proofs.Putting.{then}
+use Rattle.listing.proofs.Putting.{then, fits_first, fits_next}
 use Rattle.listing.proofs.CodeLines.{string_value}
 use Rattle.listing.proofs.rows.put_string.Goals as goal
 
-pub put_decimal-n-requires : goal.put_decimal-n-requires
-put_decimal-n-requires c =
-    let e = simp length-append at (ap length (string_value _ _ c.requires.text_at)) in
-    omega (arith, c.requires.p_in_bounds)
+pub decimal-requires : goal.decimal-requires
+decimal-requires c = rw c.a.ensures (fits_first _ (rw (string_value _ _ (c.requires.string.0.text c.requires.string.1)) at c.requires.room))
 
 pub put_codes-requires : goal.put_codes-requires
 put_codes-requires c =
-    let e = simp length-append at (ap length (string_value _ _ c.requires.text_at)) in
-    record { text_at = c.requires.text_at; p_in_bounds = omega (arith, c.requires.p_in_bounds, c.put_decimal-n.ensures.next) }
+    let d = rw c.a.ensures at c.decimal.ensures in
+    record { string = c.requires.string; room = fits_next d (rw (string_value _ _ (c.requires.string.0.text c.requires.string.1)) at c.requires.room) }
 
 pub returns : goal.returns
 returns c =
-    rw (string_value _ _ c.requires.text_at) (then c.put_decimal-n.ensures c.put_codes.ensures)
+    rw (string_value _ _ (c.requires.string.0.text c.requires.string.1)) (then (rw c.a.ensures at c.decimal.ensures) c.put_codes.ensures)

@@ -1,52 +1,40 @@
 -- `listing::rows::put_value` meets its contract: the column of each kind. Assumes nothing.
-use mathlib.Core.Path.{ap}
 use native.Mathlib.Omega.{arith}
-use lib.ListN.{length}
 use Rattle.listing.proofs.Putting.{nothing}
-use Rattle.listing.proofs.RowLines.{value_text, value_group, value_int, value_leaf, value_empty, value_plain}
+use Rattle.listing.proofs.RowLines.{int_row, bits_value, code_row, empty_row, group_row, text_row}
 use Rattle.listing.proofs.rows.put_value.Goals as goal
 
-pub put_string-requires : goal.put_string-requires
-put_string-requires c =
-    let e = ap length (value_text c.args.table.now c.args.p c.if-kind-eq-STRING.true) in
-    record { text_at = c.requires.row_in_order.text c.if-kind-eq-STRING.true; p_in_bounds = omega (arith, c.requires.p_in_bounds) }
+pub signed-requires : goal.signed-requires
+signed-requires c = rw (c.b.ensures, ← int_row c.args.row.now.table.now c.args.row.now.p c.args.kind c.requires.in_order.1 c.in-Int.is) c.requires.room
 
-pub returns-then-kind-eq-STRING : goal.returns-then-kind-eq-STRING
-returns-then-kind-eq-STRING c = rw (value_text _ _ c.if-kind-eq-STRING.true) c.put_string.ensures
+pub decimal-requires : goal.decimal-requires
+decimal-requires c = rw (c.b-in-Char.ensures, ← code_row c.args.row.now.table.now c.args.row.now.p c.args.kind c.requires.in_order.1 c.requires.in_order.0 c.in-Char.is) c.requires.room
 
-pub put_decimal-requires : goal.put_decimal-requires
-put_decimal-requires c =
-    let e = ap length (value_group c.args.table.now c.args.p c.if-kind-ge-STRUC.true c.if-kind-eq-STRING.false) in
-    omega (arith, c.requires.p_in_bounds)
+pub put_bits-requires-clause-room : goal.put_bits-requires-clause-room
+put_bits-requires-clause-room c = rw (bits_value c.args.row.now.table.now c.args.row.now.p c.args.kind c.requires.in_order.1 c.in-Bits.is) at c.requires.room
 
-pub returns-then-kind-ge-STRUC : goal.returns-then-kind-ge-STRUC
-returns-then-kind-ge-STRUC c = rw (value_group _ _ c.if-kind-ge-STRUC.true c.if-kind-eq-STRING.false) c.put_decimal.ensures
+pub decimal-requires-in-Struc : goal.decimal-requires-in-Struc
+decimal-requires-in-Struc c = rw (c.a.ensures, ← group_row c.args.row.now.table.now c.args.row.now.p c.args.kind c.requires.in_order.1 c.in-Struc.is) c.requires.room
 
-pub put_signed-requires : goal.put_signed-requires
-put_signed-requires c =
-    let e = ap length (value_int c.args.table.now c.args.p c.if-kind-eq-INT.true) in
-    omega (arith, c.requires.p_in_bounds)
+pub put_string-requires-clause-room : goal.put_string-requires-clause-room
+put_string-requires-clause-room c = rw (text_row c.args.row.now.table.now c.args.row.now.p c.args.kind c.requires.in_order.1 c.in-String.is) at c.requires.room
 
-pub returns-then-kind-eq-INT : goal.returns-then-kind-eq-INT
-returns-then-kind-eq-INT c = rw (value_int _ _ c.if-kind-eq-INT.true) c.put_signed.ensures
+pub returns-in-Int : goal.returns-in-Int
+returns-in-Int c = rw (int_row c.args.row.now.table.now c.args.row.now.p c.args.kind c.requires.in_order.1 c.in-Int.is, ← c.b.ensures) c.signed.ensures
 
-pub put_bits-requires : goal.put_bits-requires
-put_bits-requires c =
-    let e = ap length (value_leaf c.args.table.now c.args.p c.if-kind-ge-STRUC.false) in
-    record { leaf_at = (c.requires.row_in_order.leaf (omega arith), c.if-kind-eq-BITS.true); p_in_bounds = omega (arith, c.requires.p_in_bounds) }
+pub returns-in-Bits : goal.returns-in-Bits
+returns-in-Bits c = rw (bits_value c.args.row.now.table.now c.args.row.now.p c.args.kind c.requires.in_order.1 c.in-Bits.is) c.put_bits.ensures
 
-pub returns-then-kind-eq-BITS : goal.returns-then-kind-eq-BITS
-returns-then-kind-eq-BITS c = rw (value_leaf _ _ c.if-kind-ge-STRUC.false) c.put_bits.ensures
+pub returns-in-Char : goal.returns-in-Char
+returns-in-Char c = rw (code_row c.args.row.now.table.now c.args.row.now.p c.args.kind c.requires.in_order.1 c.requires.in_order.0 c.in-Char.is, ← c.b-in-Char.ensures) c.decimal.ensures
 
-pub returns-then-kind-eq-EMPTY : goal.returns-then-kind-eq-EMPTY
-returns-then-kind-eq-EMPTY c =
-    rw (value_empty _ _ (c.requires.row_in_order.leaf (omega arith)) c.if-kind-eq-EMPTY.true) (nothing c.args.at c.args.out.now (omega (arith, c.requires.p_in_bounds)))
+pub returns-in-Empty : goal.returns-in-Empty
+returns-in-Empty c =
+    let e = empty_row c.args.row.now.table.now c.args.row.now.p c.args.kind c.requires.in_order.1 c.requires.in_order.0 c.in-Empty.is in
+    rw e (nothing c.args.out.now (omega (arith, c.requires.room.room)))
 
-pub put_decimal-requires-2 : goal.put_decimal-requires-2
-put_decimal-requires-2 c =
-    let e = ap length (value_plain c.args.table.now c.args.p (c.requires.row_in_order.leaf (omega arith)) c.if-kind-ge-STRUC.false c.if-kind-eq-INT.false c.if-kind-eq-BITS.false c.if-kind-eq-EMPTY.false) in
-    omega (arith, c.requires.p_in_bounds)
+pub returns-in-Struc : goal.returns-in-Struc
+returns-in-Struc c = rw (group_row c.args.row.now.table.now c.args.row.now.p c.args.kind c.requires.in_order.1 c.in-Struc.is, ← c.a.ensures) c.decimal-in-Struc.ensures
 
-pub returns : goal.returns
-returns c =
-    rw (value_plain _ _ (c.requires.row_in_order.leaf (omega arith)) c.if-kind-ge-STRUC.false c.if-kind-eq-INT.false c.if-kind-eq-BITS.false c.if-kind-eq-EMPTY.false) c.put_decimal-2.ensures
+pub returns-in-String : goal.returns-in-String
+returns-in-String c = rw (text_row c.args.row.now.table.now c.args.row.now.p c.args.kind c.requires.in_order.1 c.in-String.is) c.put_string.ensures

@@ -10,8 +10,12 @@ decreases-put_run l = 16 - l.level
 
 abbrev pub invariant-loop-p : goal.invariant-loop-p
 invariant-loop-p l =
-    (l.p ≤ l.to) × Run l.table l.p l.to × (l.level + depth (items_at l.table l.p l.to) ≤ 16)
-    × Part l.at (lines l.level (items_at l.table l.from l.to)) (lines l.level (items_at l.table l.p l.to)) l.initial.out l.n l.out
+    record {
+      within : l.p ≤ l.to;
+      run : Run l.table l.p l.to;
+      shallow : l.level + depth (items_at l.table l.p l.to) ≤ 16;
+      part : Part (lines l.level (items_at l.table l.from l.to)) (lines l.level (items_at l.table l.p l.to)) l.initial.out l.out;
+    }
 
 abbrev pub decreases-loop-p : goal.decreases-loop-p
 decreases-loop-p l = l.to - l.p

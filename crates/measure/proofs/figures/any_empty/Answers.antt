@@ -1,13 +1,15 @@
 -- `measure::figures::any_empty` meets its contract. Assumes nothing.
-use Rattle.measure.proofs.RowTests.{first_empty, second_empty, third_empty}
+use mathlib.Core.Path.{◌≡◌, ◌∙◌}
+use lib.Dec.{eqb}
+use Rattle.std.proofs.Common.{rules}
+use Rattle.std.specs.List.{list_any}
+use Rattle.std.proofs.lemmas.Iterator.{YieldsList-from_slice}
+use Rattle.std.proofs.lemmas.Iterator.Search.{any_from_yields_List}
+use Rattle.measure.proofs.RowTests.{empties}
 use Rattle.measure.proofs.figures.any_empty.Goals as goal
-
-pub returns-then-kind_at-eq-EMPTY : goal.returns-then-kind_at-eq-EMPTY
-returns-then-kind_at-eq-EMPTY c = first_empty _ _ c.kind_at.ensures c.if-kind_at-eq-EMPTY.true
-
-pub returns-then-kind_at-eq-EMPTY-2 : goal.returns-then-kind_at-eq-EMPTY-2
-returns-then-kind_at-eq-EMPTY-2 c = second_empty _ _ c.kind_at.ensures c.if-kind_at-eq-EMPTY.false _ c.kind_at-2.ensures c.if-kind_at-eq-EMPTY-2.true
 
 pub returns : goal.returns
 returns c =
-    third_empty _ _ c.kind_at.ensures c.if-kind_at-eq-EMPTY.false _ c.kind_at-2.ensures c.if-kind_at-eq-EMPTY-2.false _ c.kind_at-3.ensures
+    let e : c.any.result ≡ list_any (λ r. eqb r.kind 5) c.figure_rows.result =
+    any_from_yields_List (λ r. eqb r.kind 5) _ _ c.any.result c.any.ensures.ran (YieldsList-from_slice _ c.iter.ensures.rest) (λ x b q h. search rules) in
+    rw c.figure_rows.ensures at e ∙ empties c.args.table.now

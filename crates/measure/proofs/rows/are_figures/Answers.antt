@@ -1,22 +1,15 @@
 -- `measure::rows::are_figures` meets its contract. Assumes nothing.
-use mathlib.Core.Path.{ap, ◌∙◌}
-use Rattle.measure.specs.SheetRows.{is_figure, are_figures}
-use Rattle.measure.proofs.RowTests.{test_fails, test_holds}
+use mathlib.Core.Path.{◌≡◌, ◌∙◌}
+use Rattle.std.proofs.Common.{rules}
+use Rattle.std.specs.List.{list_all}
+use Rattle.std.proofs.lemmas.Iterator.{YieldsList-from_slice}
+use Rattle.std.proofs.lemmas.Iterator.Search.{all_from_yields_List}
+use Rattle.measure.specs.SheetRows.{is_figure}
+use Rattle.measure.proofs.RowTests.{figures_all}
 use Rattle.measure.proofs.rows.are_figures.Goals as goal
 
-pub returns-then-not-is_figure : goal.returns-then-not-is_figure
-unfolding are_figures
-returns-then-not-is_figure c = test_fails _ _ _ (c.is_figure.ensures ∙ ap is_figure c.kind_at.ensures) c.if-not-is_figure.true
-
-pub returns-then-not-is_figure-2 : goal.returns-then-not-is_figure-2
-unfolding are_figures
-returns-then-not-is_figure-2 c =
-    test_holds _ _ _ _ (c.is_figure.ensures ∙ ap is_figure c.kind_at.ensures) c.if-not-is_figure.false
-    (test_fails _ _ _ (c.is_figure-2.ensures ∙ ap is_figure c.kind_at-2.ensures) c.if-not-is_figure-2.true)
-
 pub returns : goal.returns
-unfolding are_figures
 returns c =
-    test_holds _ _ _ _ (c.is_figure.ensures ∙ ap is_figure c.kind_at.ensures) c.if-not-is_figure.false
-    (test_holds _ _ _ _ (c.is_figure-2.ensures ∙ ap is_figure c.kind_at-2.ensures) c.if-not-is_figure-2.false
-    (c.is_figure-3.ensures ∙ ap is_figure c.kind_at-3.ensures))
+    let e : c.all.result ≡ list_all (λ r. is_figure r.kind) c.figure_rows.result =
+    all_from_yields_List (λ r. is_figure r.kind) _ _ c.all.result c.all.ensures.ran (YieldsList-from_slice _ c.iter.ensures.rest) (λ x b q h. search rules) in
+    rw c.figure_rows.ensures at e ∙ figures_all c.args.table.now

@@ -6,5 +6,5 @@ use Rattle.salvage.proofs.parts.fixed_bytes.Goals as goal
 pub returns-then-s-k : goal.returns-then-s-k
 returns-then-s-k c = fixed_past c.args.s.now c.args.k c.if-s-k.true
 
-pub returns : goal.returns
-returns c = fixed_lying c.args.s.now c.args.k (omega (arith, c.if-s-k.false))
+pub returns-else-s-k : goal.returns-else-s-k
+returns-else-s-k c = fixed_lying c.args.s.now c.args.k (omega (arith, c.if-s-k.false))

@@ -1,16 +1,7 @@
 -- `parts::sized_bytes` meets its contract. Assumes nothing.
-use native.Mathlib.Omega.{arith}
-use Rattle.salvage.proofs.ExtentLaws.{past_told, within_told, within_fits}
+use Rattle.std.proofs.Common.{rules}
+use Rattle.salvage.proofs.ExtentLaws.{sized_told}
 use Rattle.salvage.proofs.parts.sized_bytes.Goals as goal
 
-pub returns-in-Wanting : goal.returns-in-Wanting
-returns-in-Wanting c = past_told c.args.s.now _ c.extent_of-e.ensures _ c.in-Wanting.is
-
-pub returns-in-Within : goal.returns-in-Within
-returns-in-Within c = within_told c.args.s.now _ c.extent_of-e.ensures _ _ c.in-Within.is
-
-pub overflow_add-result : goal.overflow_add-result
-overflow_add-result c = omega (arith, within_fits _ _ c.extent_of-e.ensures _ _ c.in-Within.is, c.requires)
-
-pub overflow_add-result-in-Within : goal.overflow_add-result-in-Within
-overflow_add-result-in-Within c = omega (arith, within_fits _ _ c.extent_of-e.ensures _ _ c.in-Within.is, c.requires)
+pub returns : goal.returns
+returns c = sized_told c.args.s.now c.extent_of.result c.ok.result c.map.result _ c.ok.ensures.value c.map.ensures.cases (λ e n h. search rules) c.extent_of.ensures

@@ -2,5 +2,5 @@
 use Rattle.salvage.proofs.Surveying.{measured_whole}
 use Rattle.salvage.proofs.walk.measured.Goals as goal
 
-pub returns : goal.returns
-returns c = measured_whole c.args.input.now c.alone-v.result c.alone-v.ensures c.if-v-ne0.false
+pub returns-in-Ok : goal.returns-in-Ok
+returns-in-Ok c = measured_whole c.args.input.now c.in-Ok.said c.in-Ok.ensures

@@ -1,17 +1,18 @@
 -- `walk::mend` meets its contract. Assumes nothing.
-use Rattle.salvage.proofs.Laying.{front_length, front_fits, front_there, front_room, front_out}
+use mathlib.Core.Path.{sym, subst}
+use Rattle.salvage.specs.Told.{Clean}
+use Rattle.salvage.proofs.Laying.{front_there, front_out}
 use Rattle.salvage.proofs.walk.mend.Goals as goal
+use Rattle.salvage.proofs.walk.mend.Goals.{After-unwrap_or-first}
 
-pub mend_from-requires : goal.mend_from-requires
-mend_from-requires c =
-    record { has_room = (front_room _ _ c.requires.2 _ _ c.copy_to.ensures _ c.requires.0, c.requires.1); clean = (c.requires.2, front_there _ _ c.requires.2 _ _ c.copy_to.ensures) }
+clean : (c : After-unwrap_or-first) → Clean c.args.input.now c.unwrap_or-first.result
+clean c = subst (Clean c.args.input.now) (sym c.unwrap_or-first.ensures) c.requires.clean
 
-pub returns : goal.returns
-returns c =
-    record { output_after = front_out _ _ c.requires.2 _ _ c.copy_to.ensures _ c.mend_from.ensures.output_after; list_after = c.mend_from.ensures.list_after }
+pub mend_from-requires-clause-clean : goal.mend_from-requires-clause-clean
+mend_from-requires-clause-clean c =
+    let q = clean (goal.at.mend_from-requires-clause-clean c).After-unwrap_or-first in
+    (q, front_there _ _ q _ _ c.copy_to.ensures)
 
-pub slice_bounds-copy_to-end : goal.slice_bounds-copy_to-end
-slice_bounds-copy_to-end c = front_length _ _ c.requires.2
-
-pub copy_to-requires : goal.copy_to-requires
-copy_to-requires c = front_fits _ _ c.requires.2 _ _ c.requires.0
+pub returns-clause-output_after : goal.returns-clause-output_after
+returns-clause-output_after c =
+    front_out _ _ (clean (goal.at.returns-clause-output_after c).After-unwrap_or-first) _ _ c.copy_to.ensures _ c.mend_from.ensures.output_after

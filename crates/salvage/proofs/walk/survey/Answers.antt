@@ -1,59 +1,34 @@
 -- `walk::survey` meets its contract. Assumes nothing.
 use native.Mathlib.Omega.{arith}
-use Rattle.salvage.proofs.PartCases.{part_upto}
-use Rattle.salvage.proofs.Surveying.{survey_start, survey_kept, survey_few, survey_replaced, survey_lost, survey_end}
+use Rattle.salvage.proofs.PartCases.{bad_upto, bad_some}
+use Rattle.salvage.proofs.Surveying.{survey_start, survey_kept, survey_few, survey_replaced, survey_dropped, survey_end}
 use Rattle.salvage.proofs.walk.survey.Goals as goal
-
-pub returns-then-part-eq0 : goal.returns-then-part-eq0
-returns-then-part-eq0 c =
-    survey_lost c.args.input.now c.loop-p.p c.loop-p.bytes c.loop-p.entries c.loop-p.rows c.loop-p.words c.loop-p.first c.loop-p.invariant
-    (omega (arith, c.loop-p-test.true)) c.part_at-part.result c.part_at-part.ensures c.if-part-eq0.true c.first_of.result c.first_of.ensures
-
-pub loop-p-preserved-then-part-eq0-2 : goal.loop-p-preserved-then-part-eq0-2
-loop-p-preserved-then-part-eq0-2 c =
-    survey_kept c.args.input.now c.loop-p.p c.loop-p.bytes c.loop-p.entries c.loop-p.rows c.loop-p.words c.loop-p.first c.loop-p.invariant
-    (omega (arith, c.loop-p-test.true)) c.part_at-part.result c.part_at-part.ensures c.if-part-eq0.false c.if-part-eq0-2.true
-
-pub loop-p-preserved : goal.loop-p-preserved
-loop-p-preserved c =
-    survey_replaced c.args.input.now c.loop-p.p c.loop-p.bytes c.loop-p.entries c.loop-p.rows c.loop-p.words c.loop-p.first c.loop-p.invariant
-    (omega (arith, c.loop-p-test.true)) c.part_at-part.result c.part_at-part.ensures c.if-part-eq0.false c.if-part-eq0-2.false c.first_of-first.result c.first_of-first.ensures
+use Rattle.salvage.proofs.walk.survey.Goals.{In-Kept, In-Replaced}
 
 pub loop-p-init : goal.loop-p-init
 loop-p-init c = survey_start _
 
-pub overflow_add-p : goal.overflow_add-p
-overflow_add-p c = omega (arith, part_upto c.args.input.now c.loop-p.p c.part_at-part.result (omega (arith, c.loop-p-test.true)) c.part_at-part.ensures, c.requires)
+pub overflow_add-all-in-Kept : goal.overflow_add-all-in-Kept
+overflow_add-all-in-Kept c = omega (arith, (survey_few _ _ _ c.loop-p.invariant c.in-Kept.n c.in-Kept.said c.in-Kept.ensures).0, c.requires)
 
-pub overflow_add-bytes : goal.overflow_add-bytes
-overflow_add-bytes c = omega (arith, part_upto c.args.input.now c.loop-p.p c.part_at-part.result (omega (arith, c.loop-p-test.true)) c.part_at-part.ensures, c.loop-p.invariant.few_bytes, c.requires)
+pub overflow_add-all-in-Kept-2 : goal.overflow_add-all-in-Kept-2
+overflow_add-all-in-Kept-2 c = omega (arith, (survey_few _ _ _ c.loop-p.invariant c.in-Kept.n c.in-Kept.said c.in-Kept.ensures).1, c.requires)
 
-pub overflow_add-rows : goal.overflow_add-rows
-overflow_add-rows c = omega (
-  arith,
-  c.loop-p.invariant.few_rows,
-  c.loop-p.invariant.upto,
-  c.requires,
-  (survey_few c.args.input.now c.loop-p.p _ _ _ _ _ c.loop-p.invariant
-      (omega (arith, c.loop-p-test.true)) c.part_at-part.result c.part_at-part.ensures c.if-part-eq0.false c.if-part-eq0-2.true).0,
-)
+pub loop-p-preserved-in-Kept : goal.loop-p-preserved-in-Kept
+loop-p-preserved-in-Kept c = survey_kept _ _ _ c.loop-p.invariant c.in-Kept.n c.in-Kept.said c.in-Kept.ensures
 
-pub overflow_add-words : goal.overflow_add-words
-overflow_add-words c = omega (
-  arith,
-  c.loop-p.invariant.few_words,
-  c.loop-p.invariant.upto,
-  c.requires,
-  (survey_few c.args.input.now c.loop-p.p _ _ _ _ _ c.loop-p.invariant
-      (omega (arith, c.loop-p-test.true)) c.part_at-part.result c.part_at-part.ensures c.if-part-eq0.false c.if-part-eq0-2.true).1,
-)
+pub overflow_add-p-in-Replaced : goal.overflow_add-p-in-Replaced
+overflow_add-p-in-Replaced c = omega (arith, bad_upto c.args.input.now c.loop-p.p c.in-Replaced.n _ c.in-Replaced.ensures c.loop-p.invariant.upto, c.requires)
 
-pub loop-p-smaller-then-part-eq0-2 : goal.loop-p-smaller-then-part-eq0-2
-loop-p-smaller-then-part-eq0-2 c = omega (arith, part_upto c.args.input.now c.loop-p.p c.part_at-part.result (omega (arith, c.loop-p-test.true)) c.part_at-part.ensures, c.if-part-eq0.false)
+pub loop-p-smaller-in-Replaced : goal.loop-p-smaller-in-Replaced
+loop-p-smaller-in-Replaced c = omega (arith, bad_some c.args.input.now c.loop-p.p c.in-Replaced.n _ c.in-Replaced.ensures)
 
-pub loop-p-smaller : goal.loop-p-smaller
-loop-p-smaller c = omega (arith, part_upto c.args.input.now c.loop-p.p c.part_at-part.result (omega (arith, c.loop-p-test.true)) c.part_at-part.ensures, c.if-part-eq0.false)
+pub loop-p-preserved-in-Replaced : goal.loop-p-preserved-in-Replaced
+loop-p-preserved-in-Replaced c = survey_replaced _ _ _ c.loop-p.invariant c.or-all.result c.or-all.ensures c.in-Replaced.n _ c.in-Replaced.ensures
+
+pub loop-p-preserved : goal.loop-p-preserved
+loop-p-preserved c =
+    survey_dropped _ _ _ c.loop-p.invariant c.or-all-in-Dropped.result c.or-all-in-Dropped.ensures _ c.loop-p-test.true c.in-Dropped.ensures
 
 pub returns : goal.returns
-returns c = survey_end c.args.input.now c.loop-p.p c.loop-p.bytes c.loop-p.entries c.loop-p.rows c.loop-p.words c.loop-p.first c.loop-p.invariant
-    (omega (arith, c.loop-p-test.false)) c.first_of-2.result c.first_of-2.ensures
+returns c = survey_end _ _ _ c.loop-p.invariant c.loop-p-test.false

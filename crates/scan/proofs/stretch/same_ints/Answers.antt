@@ -1,5 +1,4 @@
 -- `same_ints` meets its contract: up to e the bytes from i on say so many integers. Assumes nothing.
-use native.Mathlib.Omega.{arith}
 use Rattle.scan.proofs.Stretches.{ints_none, ints_join, ints_long}
 use Rattle.scan.proofs.stretch.same_ints.Goals as goal
 
@@ -11,6 +10,3 @@ loop-e-preserved c =
     let p = c.requires in
     ints_join c.args.s.now _ _ _ _ _ c.loop-e.invariant
     (ints_long c.args.s.now _ _ _ c.if-s-e.false p.1 p.2 p.3 c.loop-e-test.true)
-
-pub overflow_sub-s : goal.overflow_sub-s
-overflow_sub-s c = let l = c.loop-e.invariant.comes.piece.to in omega arith

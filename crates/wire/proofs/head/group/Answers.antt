@@ -1,9 +1,11 @@
 -- `head::group` meets its contract. Assumes nothing.
+use Rattle.std.proofs.lemmas.Result.{err_from_is_err_and}
 use Rattle.wire.proofs.HeadLaws.{group_stop, group_open}
 use Rattle.wire.proofs.head.group.Goals as goal
 
-pub returns-in-Outside : goal.returns-in-Outside
-returns-in-Outside c = group_stop _ _ _ c.contents_of-c.ensures _ _ c.in-Outside.is
+pub returns-in_err-contents_of : goal.returns-in_err-contents_of
+returns-in_err-contents_of c =
+    let p = err_from_is_err_and c.from_residual.result c.from_residual.ensures.1 in rw (p.1, p.2) (group_stop _ _ _ _ c.in_err-contents_of.ensures)
 
-pub returns-in-Inside : goal.returns-in-Inside
-returns-in-Inside c = group_open _ _ _ c.contents_of-c.ensures _ _ _ c.in-Inside.is
+pub returns : goal.returns
+returns c = group_open _ _ _ _ c.in_ok-contents_of.ensures

@@ -1,41 +1,48 @@
 -- `head::lbitstr` meets its contract. Assumes nothing.
-use Prim.Native.Nat.{◌+◌, ◌≤◌}
+use Rattle.std.proofs.lemmas.Result.{err_from_is_err_and}
+use Rattle.std.specs.Prelude.{Ok, Err}
+use mathlib.Core.Path.{refl, sym, ap, subst, ◌∙◌}
 use native.Mathlib.Omega.{arith}
-use mathlib.Core.Path.{sym, subst}
+use Prim.Native.Nat.{◌≤◌}
 use lib.ListN.{length}
-use Rattle.format.specs.declared.Class.TheVariants as C
-use Rattle.format.specs.Objects.{head_by}
-use Rattle.wire.specs.Heads.{HeadIs}
-use Rattle.wire.proofs.HeadLaws.{extent_within, lent_length, count_fits, lbitstr_wanting, lbitstr_wrong, lbitstr_right}
+use Rattle.format.proofs.Sizes.{contents_length}
+use Rattle.format.specs.declared.fault.Refusal.TheVariants.{BadBits}
+use Rattle.format.specs.Objects.{contents}
+use Rattle.wire.specs.Heads.{CountedIs}
+use Rattle.wire.proofs.HeadLaws.{lbitstr_stop, lbitstr_wrong, lbitstr_bad, lbitstr_right, count_within, bytes_told}
 use Rattle.wire.proofs.head.lbitstr.Goals as goal
-use Rattle.wire.proofs.head.lbitstr.Goals.{In-Within}
+use Rattle.wire.proofs.head.lbitstr.Goals.{In_ok-n}
 
--- its contents lie within the bytes
-fits : (c : In-Within) → c.in-Within.h + c.in-Within.size ≤ length c.args.s.now
-fits c = (extent_within _ _ c.extent_of-e.ensures _ _ c.in-Within.is).1
+-- the length that stands at the front of the contents
+counted : (c : In_ok-n) → CountedIs BadBits c.in_ok-e.e.start (contents c.args.s.now c.in_ok-e.e.start c.in_ok-e.e.size) (Ok c.in_ok-n.n)
+counted c = subst (λ l. CountedIs BadBits c.in_ok-e.e.start l (Ok c.in_ok-n.n)) c.contents.ensures c.in_ok-n.ensures
 
-pub count_of-c-requires : goal.count_of-c-requires
-count_of-c-requires c = omega (arith, fits (goal.at.count_of-c-requires c).In-Within, lent_length c.args.s.now c.in-Within.h c.in-Within.size)
+within : (c : In_ok-n) → c.in_ok-n.n.bytes ≤ c.in_ok-e.e.size
+within c = count_within BadBits c.args.s.now c.in_ok-e.e c.in_ok-n.n c.in_ok-e.ensures.1 (counted c)
 
-pub lbits_of-requires : goal.lbits_of-requires
-lbits_of-requires c =
-    let y = count_fits _ _ _ _ _ c.count_of-c.ensures _ _ c.in-Right.is in
-    (y.0, omega (arith, fits (goal.at.lbits_of-requires c).In-Within), y.1)
+pub returns-in_err-e : goal.returns-in_err-e
+returns-in_err-e c = let p = err_from_is_err_and c.from_residual.result c.from_residual.ensures.1 in rw (p.1, p.2) (lbitstr_stop _ _ _ c.in_err-e.ensures)
 
-pub returns-in-Wanting : goal.returns-in-Wanting
-returns-in-Wanting c = lbitstr_wanting _ _ _ c.extent_of-e.ensures _ _ c.past_end.ensures c.in-Wanting.is
+pub returns-in_err-n : goal.returns-in_err-n
+returns-in_err-n c =
+    let p = err_from_is_err_and c.from_residual-in_err-n.result c.from_residual-in_err-n.ensures.1 in
+    let y = subst (λ l. CountedIs BadBits c.in_ok-e.e.start l (Err c.in_err-n.field-0.0)) c.contents.ensures c.in_err-n.ensures in
+    rw (p.1, p.2) (lbitstr_wrong _ _ c.in_ok-e.e c.in_ok-e.ensures _ y)
 
-pub returns-in-Wrong : goal.returns-in-Wrong
-returns-in-Wrong c =
-    lbitstr_wrong _ _ _ c.extent_of-e.ensures _ _ c.in-Within.is _ c.count_of-c.ensures _ c.in-Wrong.is
+pub count_of-requires : goal.count_of-requires
+count_of-requires c =
+    let l = contents_length c.args.s.now c.in_ok-e.e.start c.in_ok-e.e.size c.in_ok-e.ensures.1 in
+    omega (arith, c.in_ok-e.ensures.1, l, ap length c.contents.ensures)
 
-pub returns-in-Right : goal.returns-in-Right
-returns-in-Right c =
-    subst (λ r. HeadIs c.args.s.now r (head_by C.Lbitstr c.args.depth 0xc1 c.args.s.now)) (sym c.lbits_of.ensures)
-    (lbitstr_right _ _ _ c.extent_of-e.ensures _ _ c.in-Within.is _ c.count_of-c.ensures _ _ c.in-Right.is)
+pub overflow_sub-e : goal.overflow_sub-e
+overflow_sub-e c = within (goal.at.overflow_sub-e c).In_ok-n
 
-pub overflow_add-end : goal.overflow_add-end
-overflow_add-end c = omega (arith, fits (goal.at.overflow_add-end c).In-Within)
+pub returns-then-e-n : goal.returns-then-e-n
+returns-then-e-n c =
+    lbitstr_bad _ _ c.in_ok-e.e c.in_ok-e.ensures c.in_ok-n.n (counted (goal.at.returns-then-e-n c).In_ok-n) _ c.here.ensures
+    (λ e. c.if-e-n.true (e ∙ sym (bytes_told _ _ c.div_ceil.ensures)))
 
-pub slice_bounds-count_of-end : goal.slice_bounds-count_of-end
-slice_bounds-count_of-end c = omega (arith, fits (goal.at.slice_bounds-count_of-end c).In-Within)
+pub returns : goal.returns
+returns c =
+    lbitstr_right _ _ c.in_ok-e.e c.in_ok-e.ensures c.in_ok-n.n (counted (goal.at.returns c).In_ok-n) _ _ refl c.end.ensures
+    (c.if-e-n.false ∙ bytes_told _ _ c.div_ceil.ensures)

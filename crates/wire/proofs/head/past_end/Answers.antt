@@ -9,6 +9,6 @@ pub returns-then-depth-eq0 : goal.returns-then-depth-eq0
 returns-then-depth-eq0 c =
     c.wants.ensures ∙ ap (λ n. wants n c.args.k) (sym (ap past_end c.if-depth-eq0.true ∙ past_outer))
 
-pub returns : goal.returns
-returns c =
-    c.wants-2.ensures ∙ ap (λ n. wants n c.args.k) (sym (past_inner c.args.depth c.if-depth-eq0.false))
+pub returns-else-depth-eq0 : goal.returns-else-depth-eq0
+returns-else-depth-eq0 c =
+    c.wants-else-depth-eq0.ensures ∙ ap (λ n. wants n c.args.k) (sym (past_inner c.args.depth c.if-depth-eq0.false))

@@ -1,51 +1,47 @@
 -- `head::repeat` meets its contract. Assumes nothing.
-use Prim.Native.Nat.{◌+◌, ◌≤◌}
+use Rattle.std.proofs.lemmas.Result.{err_from_is_err_and}
+use Rattle.std.specs.Prelude.{Ok, Err}
+use mathlib.Core.Path.{refl, sym, ap, subst}
 use native.Mathlib.Omega.{arith}
-use mathlib.Core.Path.{sym, subst}
 use lib.ListN.{length}
 use Rattle.format.specs.declared.Class.TheVariants as C
-use Rattle.format.specs.Objects.{head_by}
-use Rattle.wire.specs.declared.head.Head.TheVariants.{Stop}
-use Rattle.wire.specs.Heads.{HeadIs}
-use Rattle.wire.proofs.HeadLaws.{stopped, lent_length, count_fits, contained_inside, repeat_outer, repeat_stop, repeat_wrong, repeat_open}
+use Rattle.format.specs.declared.fault.Refusal.TheVariants.{BadRepeat}
+use Rattle.format.specs.Objects.{contents, head_by}
+use Rattle.format.proofs.Sizes.{contents_length}
+use Rattle.wire.specs.Heads.{CountedIs, HeadIs}
+use Rattle.wire.proofs.HeadLaws.{stopped, repeat_outer, repeat_stop, repeat_wrong, repeat_open, count_within}
 use Rattle.wire.proofs.head.repeat.Goals as goal
-use Rattle.wire.proofs.head.repeat.Goals.{In-Inside, In-Right}
+use Rattle.wire.proofs.head.repeat.Goals.{In_ok-n}
 
--- its contents lie within the bytes, and the count within them
-fits : (c : In-Inside) → c.in-Inside.h + c.in-Inside.size ≤ length c.args.s.now
-fits c = (contained_inside _ _ _ c.contents_of-c.ensures _ _ c.in-Inside.is).1
-
-count_in : (c : In-Right) → c.in-Right.u ≤ c.in-Inside.size
-count_in c = (count_fits _ _ _ _ _ c.count_of-k.ensures _ _ c.in-Right.is).0
+-- the count that stands at the front of the contents
+counted : (c : In_ok-n) → CountedIs BadRepeat c.in_ok-e.e.start (contents c.args.s.now c.in_ok-e.e.start c.in_ok-e.e.size) (Ok c.in_ok-n.n)
+counted c = subst (λ l. CountedIs BadRepeat c.in_ok-e.e.start l (Ok c.in_ok-n.n)) c.contents.ensures c.in_ok-n.ensures
 
 pub returns-then-depth-eq0 : goal.returns-then-depth-eq0
 returns-then-depth-eq0 c =
     let s = c.args.s.now in
-    subst (λ d. HeadIs s (Stop c.here.result) (head_by C.Repeat d 0xc4 s)) (sym c.if-depth-eq0.true)
-    (stopped s _ c.here.result _ c.here.ensures (repeat_outer s))
+    subst (λ d. HeadIs s (Err c.here.result) (head_by C.Repeat d 0xc4 s)) (sym c.if-depth-eq0.true) (stopped s _ c.here.result _ c.here.ensures (repeat_outer s))
 
-pub count_of-k-requires : goal.count_of-k-requires
-count_of-k-requires c =
-    omega (arith, fits (goal.at.count_of-k-requires c).In-Inside, lent_length c.args.s.now c.in-Inside.h c.in-Inside.size)
+pub returns-in_err-e : goal.returns-in_err-e
+returns-in_err-e c =
+    let p = err_from_is_err_and c.from_residual.result c.from_residual.ensures.1 in
+    rw (p.1, p.2) (repeat_stop _ _ c.if-depth-eq0.false _ c.in_err-e.ensures)
 
-pub returns-in-Outside : goal.returns-in-Outside
-returns-in-Outside c = repeat_stop _ _ _ c.contents_of-c.ensures c.if-depth-eq0.false _ c.in-Outside.is
+pub count_of-requires : goal.count_of-requires
+count_of-requires c =
+    let l = contents_length c.args.s.now c.in_ok-e.e.start c.in_ok-e.e.size c.in_ok-e.ensures.1 in
+    omega (arith, c.in_ok-e.ensures.1, l, ap length c.contents.ensures)
 
-pub returns-in-Wrong : goal.returns-in-Wrong
-returns-in-Wrong c =
-    let k = c.count_of-k.ensures in
-    repeat_wrong _ _ _ c.contents_of-c.ensures c.if-depth-eq0.false _ _ c.in-Inside.is _ k _ c.in-Wrong.is
+pub returns-in_err-n : goal.returns-in_err-n
+returns-in_err-n c =
+    let p = err_from_is_err_and c.from_residual-in_err-n.result c.from_residual-in_err-n.ensures.1 in
+    let y = subst (λ l. CountedIs BadRepeat c.in_ok-e.e.start l (Err c.in_err-n.field-0.0)) c.contents.ensures c.in_err-n.ensures in
+    rw (p.1, p.2) (repeat_wrong _ _ c.if-depth-eq0.false c.in_ok-e.e c.in_ok-e.ensures _ y)
 
-pub returns-in-Right : goal.returns-in-Right
-returns-in-Right c =
-    let k = c.count_of-k.ensures in
-    repeat_open _ _ _ c.contents_of-c.ensures c.if-depth-eq0.false _ _ c.in-Inside.is _ k _ _ c.in-Right.is
+pub overflow_sub-pattern : goal.overflow_sub-pattern
+overflow_sub-pattern c =
+    count_within BadRepeat c.args.s.now c.in_ok-e.e c.in_ok-n.n c.in_ok-e.ensures.1 (counted (goal.at.overflow_sub-pattern c).In_ok-n)
 
-pub overflow_add-end : goal.overflow_add-end
-overflow_add-end c = omega (arith, fits (goal.at.overflow_add-end c).In-Inside)
-
-pub slice_bounds-count_of-end : goal.slice_bounds-count_of-end
-slice_bounds-count_of-end c = omega (arith, fits (goal.at.slice_bounds-count_of-end c).In-Inside)
-
-pub overflow_add-result : goal.overflow_add-result
-overflow_add-result c = omega (arith, fits (goal.at.overflow_add-result c).In-Inside, count_in (goal.at.overflow_add-result c).In-Right)
+pub returns : goal.returns
+returns c =
+    repeat_open _ _ c.if-depth-eq0.false c.in_ok-e.e c.in_ok-e.ensures c.in_ok-n.n _ (counted (goal.at.returns c).In_ok-n) refl refl

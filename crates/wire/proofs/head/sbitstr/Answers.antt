@@ -1,4 +1,5 @@
 -- `head::sbitstr` meets its contract. Assumes nothing.
+use Rattle.std.proofs.lemmas.Result.{err_from_is_err_and}
 use native.Mathlib.Omega.{arith}
 use mathlib.Core.Path.{ap, ◌∙◌}
 use Prim.Native.Nat.{◌-◌, ◌*◌, ◌<◌}
@@ -7,20 +8,18 @@ use Rattle.format.proofs.Digits.{bytes_of}
 use Rattle.format.proofs.OnesLaws.{zeros_ones}
 use Rattle.wire.proofs.Sbits.{zeros_few}
 use Rattle.format.specs.Objects.{head_by, sbitstr_head}
-use Rattle.wire.proofs.HeadLaws.{stopped, fixed_stop, sbitstr_bad, sbitstr_sbits}
+use Rattle.wire.proofs.HeadLaws.{stopped, sbitstr_bad, sbitstr_sbits}
 use Rattle.wire.proofs.head.sbitstr.Goals as goal
 
-pub returns-then-s-k : goal.returns-then-s-k
+pub returns-in_err-k : goal.returns-in_err-k
 unfolding head_by
-returns-then-s-k c =
-    let k = c.following_of-k in
-    fixed_stop c.args.depth c.args.b k.result c.args.s.now sbitstr_head c.past_end.result k.ensures.0 c.if-s-k.true c.past_end.ensures
+returns-in_err-k c = let p = err_from_is_err_and c.from_residual.result c.from_residual.ensures.1 in rw (p.1, p.2) (c.in_err-k.ensures sbitstr_head)
 
 pub returns-then-first-eq0 : goal.returns-then-first-eq0
 returns-then-first-eq0 c =
-    let k = c.following_of-k in
+    let k = c.in_ok-k in
     stopped c.args.s.now _ c.here.result _ c.here.ensures
-    (sbitstr_bad c.args.depth c.args.b k.result c.args.s.now k.ensures.0 (omega arith) c.if-first-eq0.true)
+    (sbitstr_bad c.args.depth c.args.b k.k c.args.s.now k.ensures.0 (omega arith) c.if-first-eq0.true)
 
 pub overflow_sub-n-2 : goal.overflow_sub-n-2
 overflow_sub-n-2 c =
@@ -31,9 +30,9 @@ overflow_sub-n-2 c =
 pub returns : goal.returns
 returns c =
     let s = c.args.s.now in
-    let k = c.following_of-k in
+    let k = c.in_ok-k in
     let l : get_or s 0 0 < 256 = omega (arith, c.type_inv.s 0) in
-    sbitstr_sbits c.args.depth c.args.b k.result _ c.number.result c.unmarked.result s
+    sbitstr_sbits c.args.depth c.args.b k.k _ c.number.result c.unmarked.result s
     (bytes_of s (λ i. omega (arith, c.type_inv.s i))) k.ensures.0 (omega arith) c.if-first-eq0.false
-    (ap (λ n. 8 * k.result - 1 - n) (c.ones_of-zeros.ensures ∙ zeros_ones (get_or s 0 0) l))
+    (ap (λ n. 8 * k.k - 1 - n) (c.ones_of-zeros.ensures ∙ zeros_ones (get_or s 0 0) l))
     c.number.ensures.0 c.unmarked.ensures.0 c.unmarked.ensures.1

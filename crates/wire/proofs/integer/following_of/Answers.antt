@@ -8,4 +8,4 @@ use Rattle.wire.proofs.integer.following_of.Goals as goal
 
 pub returns : goal.returns
 unfolding following
-returns c = (by_eq (λ n. (c.args.b + 7) % 8 + 1 ≡ n) (c.args.b % 8) 0 (λ e. omega arith) (λ e. omega arith), omega arith, omega arith)
+returns c = (by_eq (λ n. (c.from.result + 7) % 8 + 1 ≡ n) (c.args.b % 8) 0 (λ e. omega arith) (λ e. omega arith), omega arith, omega arith)

@@ -1,7 +1,7 @@
 -- `integer::linteger_at` meets its contract. Assumes nothing.
-use Rattle.wire.proofs.Leadings.{linteger_cut, linteger_found}
 use native.Mathlib.Omega.{arith}
 use Rattle.format.proofs.SignedLaws.{handed}
+use Rattle.wire.proofs.Leadings.{linteger_cut, linteger_found}
 use Rattle.wire.proofs.integer.linteger_at.Goals as goal
 
 pub returns-then-there-k : goal.returns-then-there-k

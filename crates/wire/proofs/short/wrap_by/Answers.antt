@@ -1,17 +1,14 @@
--- `short::wrap_by` asks for an EDT and for a USTRUC. Assumes nothing.
-use mathlib.Core.Path.{refl, sym, ◌∙◌}
-use Rattle.format.specs.Choice.{if_eq}
-use Rattle.wire.specs.Heads.{wrap_by}
+-- `short::wrap_by` tells the byte by its class. Assumes nothing.
+use mathlib.Core.Path.{sym, ◌∙◌}
+use Rattle.wire.proofs.ShortLaws.{wrap_edt, wrap_ustruc, wrap_other}
 use Rattle.wire.proofs.short.wrap_by.Goals as goal
 
-pub returns-then-is_edt : goal.returns-then-is_edt
-unfolding wrap_by if_eq
-returns-then-is_edt c = rw (sym c.is_edt.ensures ∙ c.if-is_edt.true) refl
+pub returns-in-Edt : goal.returns-in-Edt
+returns-in-Edt c = wrap_edt c.args.b (sym c.in-Edt.ensures)
 
-pub returns-then-is_ustruc : goal.returns-then-is_ustruc
-unfolding wrap_by if_eq
-returns-then-is_ustruc c = rw (sym c.is_edt.ensures ∙ c.if-is_edt.false, sym c.is_ustruc.ensures ∙ c.if-is_ustruc.true) refl
+pub returns-in-Ustruc : goal.returns-in-Ustruc
+returns-in-Ustruc c = wrap_ustruc c.args.b (sym c.in-Ustruc.ensures)
 
-pub returns : goal.returns
-unfolding wrap_by if_eq
-returns c = rw (sym c.is_edt.ensures ∙ c.if-is_edt.false, sym c.is_ustruc.ensures ∙ c.if-is_ustruc.false) refl
+pub returns-in_default : goal.returns-in_default
+returns-in_default c =
+    wrap_other c.args.b (λ e. c.in_default.not-Edt (c.class_of.ensures ∙ e)) (λ e. c.in_default.not-Ustruc (c.class_of.ensures ∙ e))

@@ -2,14 +2,14 @@
 use Prim.Native.Nat.{◌+◌, ◌-◌, min}
 use mathlib.Core.Path.{◌≡◌, refl, sym, subst}
 use native.Mathlib.Omega.{arith}
-use lib.ListN.{length, take, drop}
+use lib.ListN.{length, take, drop, get_or}
 use Rattle.format.specs.Numbers.{val}
 use Rattle.wire.specs.Extents.{ExtentIs}
 use Rattle.wire.proofs.Sizes.{extent_cut, extent_is, size_none, size_zero, size_short, size_long, size_long_cut}
 use Rattle.wire.proofs.size.extent_of.Goals as goal
 
-pub returns-then-s-eq0 : goal.returns-then-s-eq0
-returns-then-s-eq0 c = extent_cut c.args.s.now 1 (size_none c.args.s.now (omega arith))
+pub returns-in_default : goal.returns-in_default
+returns-in_default c = extent_cut c.args.s.now 1 (size_none c.args.s.now (omega arith))
 
 pub returns-then-b-eq0 : goal.returns-then-b-eq0
 returns-then-b-eq0 c =
@@ -20,9 +20,9 @@ returns-then-b-eq0 c =
 pub returns-then-b-lt128 : goal.returns-then-b-lt128
 returns-then-b-lt128 c =
     let s = c.args.s.now in
-    let e : c.wide.result ≡ min (lib.ListN.get_or s 0 0) 131072 = omega arith in
+    let e : c.from.result ≡ min (get_or s 0 0) 131072 = omega arith in
     subst (ExtentIs s) (sym c.extent_at-then-b-lt128.ensures)
-    (extent_is s 1 (lib.ListN.get_or s 0 0) c.wide.result (size_short s (omega arith) c.if-b-lt128.true c.if-b-eq0.false) e (omega arith) (omega arith))
+    (extent_is s 1 (get_or s 0 0) c.from.result (size_short s (omega arith) c.if-b-lt128.true c.if-b-eq0.false) e (omega arith) (omega arith))
 
 pub returns-then-there-k : goal.returns-then-there-k
 returns-then-there-k c =

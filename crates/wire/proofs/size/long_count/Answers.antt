@@ -11,4 +11,4 @@ returns-then-b-eq128 c = sym (if_eq_yes _ _ _ _ c.if-b-eq128.true)
 
 pub returns : goal.returns
 unfolding long_count
-returns c = ap (λ n. n - 128) c.wide.ensures.0 ∙ sym (if_eq_no _ _ _ _ c.if-b-eq128.false)
+returns c = ap (λ n. n - 128) c.from.ensures ∙ sym (if_eq_no _ _ _ _ c.if-b-eq128.false)

@@ -1,15 +1,12 @@
--- `span::eights` meets its contract: up to e every byte from i on is below 128. Assumes nothing.
+-- `span::eights` meets its contract: each word up to e passes. Assumes nothing.
+use mathlib.Core.Bool.{true}
+use mathlib.Core.Path.{subst}
+use Prim.Native.Nat.{ℕ}
 use native.Mathlib.Omega.{arith}
-use Prim.Native.Nat.{◌+◌}
-use Rattle.wire.proofs.Ranges.{ranged_none, ranged_join}
-use Rattle.wire.proofs.WordLaws.{all_low_lem}
+use Rattle.wire.proofs.Ranges.{passed_next}
 use Rattle.wire.proofs.span.eights.Goals as goal
 
-pub loop-e-init : goal.loop-e-init
-loop-e-init c = ranged_none _ _ _ c.args.s.now c.requires
-
 pub loop-e-preserved : goal.loop-e-preserved
-loop-e-preserved c =
-    let s = c.args.s.now in
-    let m = all_low_lem s c.loop-e.e _ (λ i. omega (arith, c.type_inv.s i)) (omega arith) c.word_at.ensures c.if-word_at-ne0.false in
-    ranged_join 0 0x7f _ c.loop-e.e (c.loop-e.e + 8) s c.loop-e.invariant (omega arith) (omega arith) m
+loop-e-preserved g c =
+    let P : ℕ → Type 0 = λ w. g.F.Fn.post c.args.passes (w, tt {0}) true in
+    passed_next P c.args.i c.loop-e.e c.args.s.now c.loop-e.invariant (omega arith) (subst P c.word_at.ensures c.if-not-passes.ensures)

@@ -9,13 +9,13 @@ use Rattle.writer.proofs.NumberLaws.{low_parts}
 use Rattle.format.proofs.Over.{lent_next}
 use Rattle.writer.proofs.numbers.put_low.Goals as goal
 
-pub returns : goal.returns
-returns c =
+pub returns-else-k-lt4 : goal.returns-else-k-lt4
+returns-else-k-lt4 c =
     let t = c.args.out.now in
     let r = c.args.k - 4 in
     let high = be 4 (c.args.n / 2 ^ (8 * r) % 256 ^ 4) in
     let low = be r (c.args.n % 256 ^ r) in
     let k : 4 + r ≡ c.args.k = omega arith in
-    lent_next high low t c.put_four.new.out c.put_each-2.new.out 4
-    (sym (be_length 4 _)) c.put_four.ensures c.put_each-2.ensures
+    lent_next high low t c.put_four.new.out c.put_each-else-k-lt4.new.out 4
+    (sym (be_length 4 _)) c.put_four.ensures c.put_each-else-k-lt4.ensures
     ∙ ap (λ l. over l t) (sym (low_parts 4 r c.args.n) ∙ ap (λ k. be k (c.args.n % 256 ^ k)) k)

@@ -9,7 +9,7 @@ abbrev pub decreases-write_run : goal.decreases-write_run
 decreases-write_run l = 2 * l.depth + 1
 
 abbrev pub invariant-write_run-loop-p : goal.invariant-write_run-loop-p
-invariant-write_run-loop-p l = Going l.table l.from l.to l.depth l.initial.out l.out l.p l.n
+invariant-write_run-loop-p l = Going l.table.words.now l.from l.to l.depth l.initial.out l.out l.p l.n
 
 abbrev pub decreases-write_run-loop-p : goal.decreases-write_run-loop-p
 decreases-write_run-loop-p l = l.to - l.p

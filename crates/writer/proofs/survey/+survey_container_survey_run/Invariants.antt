@@ -11,7 +11,7 @@ decreases-survey_run l = 2 * l.depth + 1
 
 abbrev pub invariant-survey_run-loop-p : goal.invariant-survey_run-loop-p
 invariant-survey_run-loop-p l =
-    (l.p ≤ l.to) × RowsPassed l.table (words_of l.table) l.depth l.before l.from l.base l.p l.count l.n
+    let w = l.table.words.now in (l.p ≤ l.to) × RowsPassed w (words_of w) l.depth l.before l.from l.base l.p l.items l.bytes
 
 abbrev pub decreases-survey_run-loop-p : goal.decreases-survey_run-loop-p
 decreases-survey_run-loop-p l = l.to - l.p

@@ -1,9 +1,6 @@
-use Prim.Native.Nat.{◌-◌}
+use Prim.Native.Nat.{◌+◌, ◌*◌}
 use Rattle.writer.specs.Surveys.{SmallRows}
 use Rattle.writer.proofs.survey.fours_until.Given as goal
 
-abbrev pub invariant-loop-q : goal.invariant-loop-q
-invariant-loop-q l = SmallRows l.table l.kind l.bound l.p l.to l.q
-
-abbrev pub decreases-loop-q : goal.decreases-loop-q
-decreases-loop-q l = l.to - l.q
+abbrev pub invariant-loop-four : goal.invariant-loop-four
+invariant-loop-four l = SmallRows l.rows.words.now l.one.kind l.one.bound l.rows.from l.rows.to (l.rows.from + 4 * l.four)
