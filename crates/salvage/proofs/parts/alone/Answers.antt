@@ -5,7 +5,8 @@ use Rattle.std.proofs.Common.{rules}
 use Rattle.format.specs.Refused.{meant}
 use Rattle.format.specs.Messages.{outcome}
 use Rattle.salvage.specs.Told.{met_told}
-use Rattle.salvage.proofs.Verdicts.{mapped_ok, mapped_err, verdict_refused, verdict_many, few, verdict_sound}
+use Rattle.scan.proofs.Moved.{mapped_ok, mapped_err}
+use Rattle.salvage.proofs.Verdicts.{verdict_refused, verdict_many, few, verdict_sound}
 use Rattle.salvage.proofs.parts.alone.Goals as goal
 
 pub returns-in_err-sum : goal.returns-in_err-sum
