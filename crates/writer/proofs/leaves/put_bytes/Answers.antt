@@ -1,8 +1,7 @@
 -- `writer::leaves::put_bytes` meets its contract: the words before `i` stand, and the rest of the bytes belongs behind them. Assumes nothing.
-use Prim.Native.Nat.{ℕ, ◌+◌, ◌/◌, ◌<◌}
+use Prim.Native.Nat.{◌+◌, ◌/◌, ◌<◌}
 use mathlib.Core.Path.{◌≡◌, refl}
 use native.Mathlib.Omega.{arith}
-use lib.ListN.{length, take}
 use Rattle.writer.proofs.WordLaws.{Laying, laying_starts, laying_one, laying_on, laying_last, laying_ends, whole_length, whole_word}
 use Rattle.writer.proofs.leaves.put_bytes.Goals as goal
 use Rattle.writer.proofs.leaves.put_bytes.Goals.{Joined-whole-eq1, then-whole-eq1, else-whole-eq1+else-loop-i-test}
