@@ -1,17 +1,16 @@
 -- Bits that are left-adjusted in bytes, taken as words. Assumes nothing.
-use Rattle.std.proofs.Common.{◌≡◌, ℕ, zero, suc, ◌+◌, ◌-◌, ◌*◌, ◌/◌, ◌%◌, ◌^◌, ◌<◌, ◌≤◌, min, Bool, List, [], ◌∷◌, ◌++◌, length, get_or, take, drop, set, sym, refl, ap, ◌∙◌, ap₂, add-zero, mod-eq_of_lt, arith, length-drop, take-append-drop, length-take-le, take-take, pow_pos}
+use Rattle.std.proofs.Common.{◌≡◌, ℕ, zero, suc, ◌+◌, ◌-◌, ◌*◌, ◌/◌, ◌%◌, ◌^◌, ◌<◌, ◌≤◌, Bool, List, [], ◌∷◌, ◌++◌, length, get_or, take, drop, set, sym, refl, ap, ◌∙◌, ap₂, add-zero, mod-eq_of_lt, arith, length-drop, take-append-drop, length-take-le, take-take, pow_pos}
 use native.Mathlib.Nat.{mul-add-div_right, div-eq_of_lt}
 use lib.Seq.{take-nil, drop-nil, take-append-add, drop-append-add}
 use Rattle.format.specs.Numbers.{Bytes, val}
 use Rattle.format.specs.Bits.{bit, num, bits_of, spread, adjusted, packed}
 use Rattle.format.specs.Answers.{over}
-use Rattle.format.proofs.Choices.{split}
-use Rattle.format.proofs.Digits.{bytes_of, bytes_take}
+use Rattle.format.proofs.Digits.{bytes_of, bytes_take, bytes_drop}
 use Rattle.format.proofs.Parts.{drop_take, rest_part}
 use Rattle.format.proofs.BitLaws.{bits_length_lem, spread_length, packed_length, packed_parts, adjusted_lt}
 use Rattle.format.proofs.Marker.{num_lt, num_append, num_spread, adjusted_num}
 use Rattle.wire.specs.WordsAt.{word_at}
-use Rattle.wire.proofs.WordLaws.{high_bytes}
+use Rattle.wire.proofs.WordLaws.{high_bytes, word_val}
 use Rattle.format.proofs.Over.{over_next, set_at}
 
 -- ---- bits of some of the bytes
@@ -38,13 +37,9 @@ adjusted_take zero bs = refl
 adjusted_take (suc w) [] = refl
 adjusted_take (suc w) (b ∷ bs) = ap (λ n. bit b * 2 ^ w + n) (adjusted_take w bs)
 
-adjusted_cut : (q : ℕ) (bs : List Bool) → adjusted 64 (take q bs) ≡ adjusted 64 (take (min q 64) bs)
-adjusted_cut q bs =
-    split q 64
-    (λ l. let e : min q 64 ≡ q = omega arith in rw e refl)
-    (λ g.
-    let e : min q 64 ≡ 64 = omega arith in
-    rw e (sym (adjusted_take 64 (take q bs)) ∙ ap (adjusted 64) (take-take 64 q bs g)))
+-- the first 64 of more bits
+first_word : (q : ℕ) (bs : List Bool) → 64 ≤ q → adjusted 64 (take 64 bs) ≡ adjusted 64 (take q bs)
+first_word q bs h = ap (adjusted 64) (sym (take-take 64 q bs h)) ∙ adjusted_take 64 (take q bs)
 
 -- the high n of the bits of a number in k bytes
 high_bits : (p : List ℕ) (n : ℕ) → Bytes p → n ≤ 8 * length p → num (take n (spread 8 p)) ≡ val p / 2 ^ (8 * length p - n)
@@ -84,19 +79,36 @@ pub packed_more : (j : ℕ) (bs : List Bool) → packed 64 (j + 1) bs ≡ packed
 unfolding packed
 packed_more j bs = packed_parts 64 j 1 bs
 
--- the word that the code takes from the bytes behind those of the words before
-pub next_word : (c : List ℕ) (n j : ℕ)
-    → adjusted 64 (drop (64 * j) (take n (spread 8 c))) ≡ adjusted 64 (take (min (n - 64 * j) 64) (spread 8 (take (length c - 8 * j) (drop (8 * j) c))))
+-- the bits of the word j stand in the bytes behind those of the words before
+next_word : (c : List ℕ) (n j : ℕ) → adjusted 64 (drop (64 * j) (take n (spread 8 c))) ≡ adjusted 64 (take (n - 64 * j) (spread 8 (drop (8 * j) c)))
 next_word c n j =
     let e : 64 * j ≡ 8 * (8 * j) = omega arith in
-    ap (adjusted 64) (drop_take (64 * j) n (spread 8 c) ∙ ap (take (n - 64 * j)) (ap (λ m. drop m (spread 8 c)) e ∙ spread_drop (8 * j) c ∙ ap (spread 8) (sym (rest_part c (8 * j)))))
-    ∙ adjusted_cut (n - 64 * j) (spread 8 (take (length c - 8 * j) (drop (8 * j) c)))
+    ap (adjusted 64) (drop_take (64 * j) n (spread 8 c) ∙ ap (take (n - 64 * j)) (ap (λ m. drop m (spread 8 c)) e ∙ spread_drop (8 * j) c))
 
--- one turn of the loop over words
-pub word_turn : (c : List ℕ) (n : ℕ) (t₀ t : List ℕ) (j v : ℕ) → j < length t → t ≡ over (packed 64 j (take n (spread 8 c))) t₀
-    → v ≡ adjusted 64 (take (min (n - 64 * j) 64) (spread 8 (take (length c - 8 * j) (drop (8 * j) c))))
+-- one word more
+word_turn : (c : List ℕ) (n : ℕ) (t₀ t : List ℕ) (j v : ℕ) → j < length t → t ≡ over (packed 64 j (take n (spread 8 c))) t₀
+    → v ≡ adjusted 64 (take (n - 64 * j) (spread 8 (drop (8 * j) c)))
     → set t j v ≡ over (packed 64 (j + 1) (take n (spread 8 c))) t₀
 word_turn c n t₀ t j v h e w =
     let bs : List Bool = take n (spread 8 c) in
     set_at j v t h ∙ over_next (packed 64 j bs) (v ∷ []) t₀ t j e (sym (packed_length 64 j bs))
     ∙ ap (λ r. over r t₀) (ap (λ x. packed 64 j bs ++ (x ∷ [])) (w ∙ sym (next_word c n j)) ∙ sym (packed_more j bs))
+
+-- one turn of the loop over the whole words
+pub whole_turn : (c : List ℕ) (n : ℕ) (t₀ t : List ℕ) (j v : ℕ) → j < length t → t ≡ over (packed 64 j (take n (spread 8 c))) t₀
+    → ((i : ℕ) → get_or c i 0 < 256) → 64 * j + 64 ≤ n → 8 * j + 8 ≤ length c → v ≡ word_at (8 * j) c
+    → set t j v ≡ over (packed 64 (j + 1) (take n (spread 8 c))) t₀
+whole_turn c n t₀ t j v h e b i l w =
+    let d : List ℕ = drop (8 * j) c in
+    let is : adjusted 64 (take 64 (spread 8 d)) ≡ val (take 8 d) / 1 * 1 =
+    word_is d 64 8 (bytes_drop (8 * j) c (bytes_of c b)) (omega arith) (omega arith) (omega (arith, length-drop (8 * j) c)) in
+    let one : val (take 8 d) ≡ val (take 8 d) / 1 * 1 = omega arith in
+    word_turn c n t₀ t j v h e (w ∙ word_val c (8 * j) l ∙ one ∙ sym is ∙ first_word (n - 64 * j) (spread 8 d) (omega arith))
+
+-- the last word, of fewer bits, behind the whole ones
+pub last_turn : (c : List ℕ) (n : ℕ) (t₀ t : List ℕ) (j v : ℕ) → n / 64 < length t → t ≡ over (packed 64 j (take n (spread 8 c))) t₀
+    → j ≡ n / 64 → v ≡ adjusted 64 (take (n % 64) (spread 8 (take (length c - 8 * (n / 64)) (drop (8 * (n / 64)) c))))
+    → set t (n / 64) v ≡ over (packed 64 (n / 64 + 1) (take n (spread 8 c))) t₀
+last_turn c n t₀ t j v h e q w =
+    let r : n % 64 ≡ n - 64 * (n / 64) = omega arith in
+    word_turn c n t₀ t (n / 64) v h (rw q at e) (w ∙ ap₂ (λ m s. adjusted 64 (take m (spread 8 s))) r (rest_part c (8 * (n / 64))))

@@ -22,9 +22,12 @@ pub fn put_bits(c: &[u8], n: usize, table: &mut [u64])
     requires { (bytes_for n ≤ length c.now) × (n ≤ 1048576) × (words_for n ≤ length table.old) }
     ensures { table.new ≡ over (packed 64 (words_for n) (take n (spread 8 c.now))) table.old }
 {
-    let words = n.div_ceil(64);
-    for j in 0..words {
-        let from = 8 * j;
-        table[j] = word_of(&c[from..], (n - 64 * j).min(64));
+    let whole = n / 64;
+    for j in 0..whole {
+        table[j] = word_at(c, 8 * j);
+    }
+    let left = n % 64;
+    if left > 0 {
+        table[whole] = word_of(&c[8 * whole..], left);
     }
 }

@@ -3,6 +3,7 @@
 use Rattle.std.specs.Prelude.{ℕ}
 use Rattle.format.specs.Refusals as R
 use Rattle.format.specs.declared.fault.Fault.{Fault}
+use Rattle.format.specs.declared.fault.Numbered.{Numbered}
 use Rattle.format.specs.declared.fault.Refusal.{Refusal}
 use Rattle.format.specs.declared.fault.Refusal.TheVariants.{TooLong, PastInput, PastEnclosing, Unassigned, TooDeep, BadBits, BadRepeat, SeveralKinds, BadEdt, TooMany, TableShort, NotATable, TooNested, NormalLong, OutputShort, ListShort, NotASheet, FigureEmpty, FigureRange}
 
@@ -29,3 +30,7 @@ number_of FigureRange = R.figure_range
 
 abbrev pub meant : Fault → R.Fault
 meant f = record { number = number_of f.refusal; place = f.place; missing = f.missing }
+
+-- and what one is that has its number alone, which may be any
+abbrev pub numbered : Numbered → R.Fault
+numbered f = record { number = f.number; place = f.place; missing = f.missing }

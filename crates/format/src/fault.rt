@@ -1,7 +1,7 @@
 // Why something is refused, and the fault of a message: one value from where it is met to the answer, made here and moved outward here.
 ghost use Rattle.std.specs.Prelude.{◌≡◌, ◌+◌, ◌^◌, ◌<◌};
 ghost use Rattle.format.specs.Refusals as R;
-ghost use Rattle.format.specs.Refused.{number_of, meant};
+ghost use Rattle.format.specs.Refused.{number_of, meant, numbered};
 
 use super::limits::MOST_BYTES;
 
@@ -80,5 +80,58 @@ impl Fault {
             place: n + self.place,
             ..self
         }
+    }
+}
+
+// A fault by its number, which may be any, and not only that of a `Refusal`.
+#[derive(Clone, Copy, Debug, PartialEq, Eq)]
+pub struct Numbered {
+    pub number: usize,
+    pub place: usize,
+    pub missing: usize,
+}
+
+impl From<Fault> for Numbered {
+    ghost from_gives = { λ f n. numbered n ≡ meant f };
+
+    fn from(f: Fault) -> Numbered {
+        Numbered {
+            number: f.refusal.number(),
+            place: f.place,
+            missing: f.missing,
+        }
+    }
+}
+
+// A fault of this number of what is being read, for which no bytes are missing.
+pub fn here(number: usize) -> Numbered
+    ensures { numbered result ≡ R.here number }
+{
+    Numbered {
+        number,
+        place: 0,
+        missing: 0,
+    }
+}
+
+// One for which k bytes are missing, told as above.
+pub fn wants(number: usize, k: usize) -> Numbered
+    ensures { numbered result ≡ R.wants number k }
+{
+    Numbered {
+        missing: MOST_BYTES.min(k),
+        ..here(number)
+    }
+}
+
+// The fault where what was read stands n bytes further on.
+#[tactic(auto, unfolding(crate::specs::Refusals::further))]
+pub fn further(n: usize, f: Numbered) -> Numbered
+    requires { n + f.place < 2 ^ 64 }
+    ensures { numbered result ≡ R.further n (numbered f) }
+{
+    Numbered {
+        place: n + f.place,
+        ..f
     }
 }

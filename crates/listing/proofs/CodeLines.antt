@@ -4,8 +4,8 @@ use mathlib.Core.List.{List, [], ◌∷◌, ◌++◌}
 use Prim.Native.Nat.{ℕ, ◌+◌, ◌-◌, ◌*◌, ◌/◌, ◌%◌, ◌^◌, ◌≤◌, ◌<◌}
 use native.Mathlib.Numerals.{add-one}
 use native.Mathlib.Omega.{arith}
-use lib.ListN.{length, drop, get_or, drop_of_length-le}
-use lib.Seq.{drop-cons}
+use lib.ListN.{length, drop, get_or, length-drop, drop_of_length-le}
+use lib.Seq.{drop-cons, get_or-drop}
 use Rattle.format.specs.Bits.{packed, words_for}
 use Rattle.format.specs.Tables.{from_words, claimed_text, codes}
 use Rattle.format.proofs.BitLaws.{packed_at, adjusted_byte}
@@ -28,10 +28,13 @@ module _ (w : List ℕ) (p : ℕ) (h : TextAt w p) where
   codes_number : length (codes (text_at w p)) ≡ a_at w p
   codes_number = codes_length (text_at w p) ∙ sym h.row.a
 
-  -- the data word of a code is there
-  pub code_in : (i : ℕ) → i < a_at w p → 3 * get_or w 0 0 + 4 + b_at w p + i / 8 < length w
+  -- the data words are there, and among them that of a code
+  pub codes_in : 3 * get_or w 0 0 + 4 + b_at w p ≤ length w
+  codes_in = let s = (text_kept w p h).0.stored in omega arith
+
+  pub code_in : (i : ℕ) → i < a_at w p → i / 8 < length (drop (3 * get_or w 0 0 + 4 + b_at w p) w)
   unfolding words_for
-  code_in i l = let s = (text_kept w p h).0.stored in omega arith
+  code_in i l = let s = (text_kept w p h).0.stored in omega (arith, length-drop (3 * get_or w 0 0 + 4 + b_at w p) w)
 
   code_at : (i : ℕ) → i < a_at w p → get_or w (3 * get_or w 0 0 + 4 + b_at w p + i / 8) 0 / 2 ^ (56 - 8 * (i % 8)) % 256 ≡ get_or (codes (text_at w p)) i 0
   unfolding text_at claimed_text words_for
@@ -41,10 +44,11 @@ module _ (w : List ℕ) (p : ℕ) (h : TextAt w p) where
       ∙ adjusted_byte i bs ∙ sym (packed_at 8 (a_at w p) bs i l) ∙ ap (λ z. get_or z i 0) (sym (codes_text (packed 8 (a_at w p) bs)))
 
   pub codes_on : (i : ℕ) → i < a_at w p → codes_column (drop i (codes (text_at w p)))
-      ≡ space ∷ (decimal (get_or w (3 * get_or w 0 0 + 4 + b_at w p + i / 8) 0 / 2 ^ (56 - 8 * (i % 8)) % 256) ++ codes_column (drop (i + 1) (codes (text_at w p))))
+      ≡ space ∷ (decimal (get_or (drop (3 * get_or w 0 0 + 4 + b_at w p) w) (i / 8) 0 / 2 ^ (56 - 8 * (i % 8)) % 256) ++ codes_column (drop (i + 1) (codes (text_at w p))))
   codes_on i l =
-      column_on (codes (text_at w p)) i (omega (arith, codes_number))
-      ∙ ap (λ c. space ∷ (decimal c ++ codes_column (drop (i + 1) (codes (text_at w p))))) (sym (code_at i l))
+      rw (get_or-drop (3 * get_or w 0 0 + 4 + b_at w p) w (i / 8) 0)
+      (column_on (codes (text_at w p)) i (omega (arith, codes_number))
+      ∙ ap (λ c. space ∷ (decimal c ++ codes_column (drop (i + 1) (codes (text_at w p))))) (sym (code_at i l)))
 
   pub codes_end : (i : ℕ) → a_at w p ≤ i → codes_column (drop i (codes (text_at w p))) ≡ []
   codes_end i l = column_end (codes (text_at w p)) i (omega (arith, codes_number))

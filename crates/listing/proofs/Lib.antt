@@ -1,6 +1,7 @@
 pub mod Examples
 pub mod Putting
 pub mod Decimals
+pub mod BitTexts
 pub mod CodeLines
 pub mod RowLines
 pub mod RunLines

@@ -2,50 +2,28 @@
 use mathlib.Core.Path.{◌≡◌, refl, sym, ap, ◌∙◌}
 use mathlib.Core.Bool.{Bool, false}
 use mathlib.Core.List.{List, [], ◌∷◌, ◌++◌, append_assoc, append-nil}
-use Prim.Native.Nat.{ℕ, zero, suc, ◌+◌, ◌-◌, ◌*◌, ◌/◌, ◌%◌, ◌^◌, ◌≤◌, ◌<◌}
+use Prim.Native.Nat.{ℕ, ◌+◌, ◌*◌, ◌≤◌, ◌<◌}
 use native.Mathlib.Omega.{arith}
 use mathlib.Core.Logic.{◌≢◌, ◌⊎◌, inl, inr}
-use lib.ListN.{length, drop, get_or, drop_of_length-le}
-use lib.Seq.{drop-drop, drop-cons}
+use lib.ListN.{length, take, drop, get_or, length-drop}
+use lib.Seq.{drop-drop}
 use Rattle.format.specs.Choice.{if_eq, pick}
 use Rattle.format.specs.Numbers.{signed}
-use Rattle.format.specs.Bits.{bit, adjusted, words_for}
+use Rattle.format.specs.Bits.{spread, words_for}
 use Rattle.format.specs.Items.{Leaf, int, bits, char, bool, empty, xtra, Group, struc, edt, Items, leaf_kind, is_string}
 use Rattle.format.specs.Tables.{from_words, leaf_b, is_text, container_kind, row_kind, codes}
 use Rattle.format.specs.Kinds.{word_of}
 use Rattle.format.specs.declared.kinds.Kind.{Kind}
 use Rattle.format.specs.declared.kinds.Kind.TheVariants as K
 use Rattle.format.proofs.Choices.{by_pick, if_lt_yes, if_lt_no, if_eq_yes, if_eq_no}
-use Rattle.format.proofs.BitLaws.{adjusted_div, adjusted_mod}
 use Rattle.format.proofs.TableLaws.{leaf_kind_lem, other_kind}
 use Rattle.table.proofs.Standing.{group_kind_lem}
 use Rattle.table.specs.Rows.{kind_at, a_at, b_at, data_of, leaf_at, LeafAt, text_at}
-use Rattle.table.proofs.RowData.{BitsRow, bits_at, kept_at, kept_in, int_at_lem}
+use Rattle.table.proofs.RowData.{BitsRow, bits_at, int_at_lem}
 use Rattle.listing.specs.Lines.{decimal, signed_decimal, bit_text, bits_column, leaf_columns, group_columns, text_value, text_columns, line, newline}
 use Rattle.listing.specs.RowTexts.{kind_word, leaf_bits, leaf_value, value_at, row_text, RowInOrder}
-use Rattle.listing.proofs.Putting.{drop_on}
 
 -- ---- the bits of a BITS
-bit_of_word : (j : ℕ) (bs : List Bool) → j < 64 → adjusted 64 bs / 2 ^ (63 - j) % 2 ≡ adjusted 1 (drop j bs)
-bit_of_word j bs h =
-    let q : 64 ≡ j + 1 + (63 - j) = omega arith in
-    ap (λ z. adjusted z bs / 2 ^ (63 - j) % 2) q ∙ ap (λ z. z % 2) (adjusted_div (j + 1) (63 - j) bs) ∙ adjusted_mod j 1 bs
-
-bit_first : (bs : List Bool) (i : ℕ) → i < length bs → adjusted 1 (drop i bs) ≡ bit (get_or bs i false)
-unfolding adjusted
-bit_first bs i h = ap (adjusted 1) (drop-cons bs i false h) ∙ omega arith
-
-text_at_lem : (bs : List Bool) (i : ℕ) → i < length bs → get_or (bit_text bs) i 0 ≡ 0x30 + bit (get_or bs i false)
-unfolding bit_text
-text_at_lem [] i h = absurd (omega arith)
-text_at_lem (b ∷ bs) zero h = refl
-text_at_lem (b ∷ bs) (suc i) h = text_at_lem bs i (omega arith)
-
-pub text_length : (bs : List Bool) → length (bit_text bs) ≡ length bs
-unfolding bit_text
-text_length [] = refl
-text_length (b ∷ bs) = ap suc (text_length bs)
-
 pub bits_row : (w : List ℕ) (p : ℕ) → RowInOrder w p → kind_at w p ≡ 2 → BitsRow w p
 bits_row w p h k = bits_at w p (h.leaf (omega arith)) k
 
@@ -53,35 +31,19 @@ module _ (w : List ℕ) (p : ℕ) (r : BitsRow w p) where
   abbrev stream : List Bool
   stream = from_words (a_at w p) (b_at w p) (data_of w)
 
-  pub stream_length : length (bit_text (leaf_bits (leaf_at w p))) ≡ a_at w p
-  unfolding leaf_bits
-  stream_length = rw r.is (text_length stream ∙ r.kept.number)
+  -- the data words are there
+  pub words_in : 3 * get_or w 0 0 + 4 + b_at w p ≤ length w
+  words_in = let k = r.kept.stored in omega arith
 
-  -- the data word of a bit is there
-  pub word_in : (i : ℕ) → i < a_at w p → 3 * get_or w 0 0 + 4 + b_at w p + i / 64 < length w
+  pub bits_in : a_at w p ≤ 64 * length (drop (3 * get_or w 0 0 + 4 + b_at w p) w)
   unfolding words_for
-  word_in i h = kept_in w (b_at w p) (a_at w p) r.kept (i / 64) (omega arith)
+  bits_in = let k = r.kept.stored in omega (arith, length-drop (3 * get_or w 0 0 + 4 + b_at w p) w)
 
-  pub stream_at : (i : ℕ) → i < a_at w p →
-      0x30 + get_or w (3 * get_or w 0 0 + 4 + b_at w p + i / 64) 0 / 2 ^ (63 - i % 64) % 2 ≡ get_or (bit_text (leaf_bits (leaf_at w p))) i 0
-  unfolding leaf_bits words_for
-  stream_at i h =
-      let n = r.kept.number in
-      let e : 64 * (i / 64) + i % 64 ≡ i = omega arith in
-      rw r.is (ap (λ z. 0x30 + z) (ap (λ z. z / 2 ^ (63 - i % 64) % 2) (kept_at w (b_at w p) (a_at w p) r.kept (i / 64) (omega arith))
-      ∙ bit_of_word (i % 64) (drop (64 * (i / 64)) stream) (omega arith)
-      ∙ ap (adjusted 1) (drop-drop (i % 64) (64 * (i / 64)) stream ∙ ap (λ z. drop z stream) e)
-      ∙ bit_first stream i (omega arith)) ∙ sym (text_at_lem stream i (omega arith)))
-
-  -- one bit, and those behind it
-  pub bits_on : (i : ℕ) → i < a_at w p → drop i (bit_text (leaf_bits (leaf_at w p)))
-      ≡ ((0x30 + get_or w (3 * get_or w 0 0 + 4 + b_at w p + i / 64) 0 / 2 ^ (63 - i % 64) % 2) ∷ []) ++ drop (i + 1) (bit_text (leaf_bits (leaf_at w p)))
-  bits_on i h =
-      drop_on (bit_text (leaf_bits (leaf_at w p))) i (omega (arith, stream_length))
-      ∙ ap (λ b. b ∷ drop (i + 1) (bit_text (leaf_bits (leaf_at w p)))) (sym (stream_at i h))
-
-  pub bits_end : (i : ℕ) → a_at w p ≤ i → drop i (bit_text (leaf_bits (leaf_at w p))) ≡ []
-  bits_end i h = drop_of_length-le (bit_text (leaf_bits (leaf_at w p))) {i = i} (omega (arith, stream_length))
+  pub stream_is : bit_text (leaf_bits (leaf_at w p)) ≡ bit_text (take (a_at w p) (spread 64 (drop (3 * get_or w 0 0 + 4 + b_at w p) w)))
+  unfolding leaf_bits from_words
+  stream_is =
+      let e : 4 + 3 * get_or w 0 0 + b_at w p ≡ 3 * get_or w 0 0 + 4 + b_at w p = omega arith in
+      rw r.is (ap (λ l. bit_text (take (a_at w p) (spread 64 l))) (drop-drop (b_at w p) (4 + 3 * get_or w 0 0) w ∙ ap (λ n. drop n w) e))
 
   -- the number of bits, then nothing, or a space and the bits
   pub value_is : leaf_value (leaf_at w p) ≡ decimal (a_at w p) ++ bits_column stream

@@ -22,7 +22,7 @@ use Rattle.format.proofs.BitLaws.{packed_length, words_enough}
 use Rattle.listing.specs.Lines.{decimal, signed_decimal, bits_column, leaf_columns, group_columns, codes_column, text_value, text_columns, line, lines, newline}
 use Rattle.listing.specs.Listings.{text_limit}
 use Rattle.listing.proofs.Decimals.{count_most}
-use Rattle.listing.proofs.RowLines as rows_of_lem
+use Rattle.listing.proofs.BitTexts as B
 use Rattle.format.proofs.Counts.{count_rows}
 
 signed_long : (z : ℤ) → mag z < 2 ^ 63 → length (signed_decimal z) ≤ 20
@@ -33,7 +33,7 @@ signed_long (negsuc n) h = omega (arith, count_most 18 (suc n) (omega arith))
 column_long : (bs : List Bool) → length (bits_column bs) ≤ 1 + length bs
 unfolding bits_column
 column_long [] = omega arith
-column_long (b ∷ bs) = omega (arith, rows_of_lem.text_length (b ∷ bs))
+column_long (b ∷ bs) = omega (arith, B.text_length (b ∷ bs))
 
 leaf_long : (l : Leaf) → proper_leaf l ≡ true → length (leaf_words l) ≤ 16384 → length (leaf_columns l) ≤ 30 + 64 * length (leaf_words l)
 unfolding leaf_columns proper_leaf leaf_words

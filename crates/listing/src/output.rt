@@ -1,7 +1,8 @@
 // An output with the place behind what is written in it: texts and numbers, one behind the other.
-ghost use Rattle.std.specs.Prelude.{◌+◌, ◌∷◌, [], ◌≤◌, ◌≡◌, length};
+ghost use Rattle.std.specs.Prelude.{◌+◌, ◌-◌, ◌*◌, ◌/◌, ◌%◌, ◌^◌, ◌∷◌, [], ◌≤◌, ◌<◌, ◌≡◌, length, take};
+ghost use Rattle.format.specs.Bits.{spread};
 ghost use Rattle.format.specs.Numbers.{signed};
-ghost use Rattle.listing.specs.Lines.{decimal, signed_decimal};
+ghost use Rattle.listing.specs.Lines.{decimal, signed_decimal, bit_text};
 ghost use Rattle.listing.specs.Puts.{Fits, Put};
 
 // The least word of a negative number.
@@ -47,6 +48,16 @@ impl<'a> Output<'a> {
         self.at = end;
     }
 
+    // So many bits of data words, the high bit of each word first.
+    pub fn bits(&mut self, words: &[u64], count: usize)
+        requires enough { count ≤ 64 * length words.now }
+        requires room { Fits (bit_text (take count (spread 64 words.now))) self.old }
+        ensures { Put (bit_text (take count (spread 64 words.now))) self.old self.new }
+    {
+        put_bits(words, &mut self.lent[self.at..self.at + count]);
+        self.at += count;
+    }
+
     pub fn decimal(&mut self, n: u64)
         requires { Fits (decimal n) self.old }
         ensures { Put (decimal n) self.old self.new }
@@ -71,6 +82,24 @@ impl<'a> Output<'a> {
             self.byte(b'-');
             self.decimal(v.wrapping_neg());
         }
+    }
+}
+
+// Bit `j` of a word, the high bit being the first.
+fn bit_of(word: u64, j: usize) -> u64
+    requires { j < 64 }
+    ensures { result ≡ word / 2 ^ (63 - j) % 2 }
+{
+    (word >> (63 - j)) % 2
+}
+
+// The first bits of data words, each as a character, in the whole of a text.
+fn put_bits(words: &[u64], text: &mut [u8])
+    requires { length text.old ≤ 64 * length words.now }
+    ensures { text.new ≡ bit_text (take (length text.old) (spread 64 words.now)) }
+{
+    for i in 0..text.len() {
+        text[i] = b'0' + bit_of(words[i / 64], i % 64) as u8;
     }
 }
 

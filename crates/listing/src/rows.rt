@@ -1,5 +1,5 @@
 // The line of one row of a table, in parts.
-ghost use Rattle.std.specs.Prelude.{◌+◌, ◌-◌, ◌*◌, ◌/◌, ◌%◌, ◌^◌, ◌<◌, ◌≡◌, length, get_or};
+ghost use Rattle.std.specs.Prelude.{◌+◌, ◌-◌, ◌*◌, ◌/◌, ◌%◌, ◌^◌, ◌<◌, ◌≤◌, ◌≡◌, length, drop};
 ghost use Rattle.format.specs.Kinds.{word_of};
 ghost use Rattle.format.specs.Tables.{codes};
 ghost use Rattle.table.specs.Rows.{kind_at, a_at, b_at, rows_of, leaf_at, text_at};
@@ -41,14 +41,14 @@ impl Row<'_> {
         row_at(self.table, self.p).b
     }
 
-    // The data word `i` of a BITS or a string.
-    fn word(&self, i: usize) -> u64
+    // The data words of a BITS or a string, and what stands behind them.
+    fn data(&self) -> &[u64]
         requires in_order { InOrder self.now }
-        requires i_in { 3 * rows_of self.now.table.now + 4 + b_at self.now.table.now self.now.p + i < length self.now.table.now }
-        ensures { result ≡ get_or self.now.table.now (3 * rows_of self.now.table.now + 4 + b_at self.now.table.now self.now.p + i) 0 }
+        requires within { 3 * rows_of self.now.table.now + 4 + b_at self.now.table.now self.now.p ≤ length self.now.table.now }
+        ensures { result.now ≡ drop (3 * rows_of self.now.table.now + 4 + b_at self.now.table.now self.now.p) self.now.table.now }
     {
         let first = 3 * (self.table[0] as usize) + 4 + (self.b() as usize);
-        self.table[first + i]
+        &self.table[first..]
     }
 }
 
@@ -70,23 +70,13 @@ fn kind_text(kind: Kind) -> &'static [u8]
     }
 }
 
-// Bit `j` of a word, the high bit being the first.
-fn bit_of(word: u64, j: usize) -> u64
-    requires { j < 64 }
-    ensures { result ≡ word / 2 ^ (63 - j) % 2 }
-{
-    (word >> (63 - j)) % 2
-}
-
 // The bits of a BITS, the high bit of each data word first.
 fn put_stream(row: &Row, out: &mut Output)
     requires bits { InOrder row.now × (kind_at row.now.table.now row.now.p ≡ 2) }
     requires room { Fits (bit_text (leaf_bits (leaf_at row.now.table.now row.now.p))) out.old }
     ensures { Put (bit_text (leaf_bits (leaf_at row.now.table.now row.now.p))) out.old out.new }
 {
-    for i in 0..row.a() as usize {
-        out.byte(b'0' + bit_of(row.word(i / 64), i % 64) as u8);
-    }
+    out.bits(row.data(), row.a() as usize);
 }
 
 // The number of bits, and if there are any, the bits.
@@ -117,9 +107,10 @@ fn put_codes(row: &Row, out: &mut Output)
     requires room { Fits (codes_column (codes (text_at row.now.table.now row.now.p))) out.old }
     ensures { Put (codes_column (codes (text_at row.now.table.now row.now.p))) out.old out.new }
 {
+    let words = row.data();
     for i in 0..row.a() as usize {
         out.byte(b' ');
-        out.decimal(code_of(row.word(i / 8), i % 8));
+        out.decimal(code_of(words[i / 8], i % 8));
     }
 }
 

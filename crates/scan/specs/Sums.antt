@@ -110,6 +110,10 @@ element_of k l r d = record { rows = r; words = d; mix = met_one k; first = met_
 abbrev pub one_of : Kind → ℕ → ℕ → Summary
 one_of k r d = element_of k k r d
 
+-- the same of any word in the place of the kind
+abbrev pub item_of : Met → ℕ → ℕ → Summary
+item_of m r d = record { rows = r; words = d; mix = m; first = m; second = met_none }
+
 abbrev pub text_of : ℕ → Summary
 text_of n = element_of K.Struc K.String 1 (words_for (8 * n))
 

@@ -2,7 +2,7 @@
 ghost use Rattle.std.specs.Prelude.{◌≡◌, ◌≤◌, ◌+◌, ◌*◌, min, eqb};
 ghost use Rattle.format.specs.Kinds.{word_of};
 ghost use Rattle.format.specs.Bits.{words_for};
-ghost use Rattle.scan.specs.Sums.{met_one, MetKind, mixed, or_else, second_sum, second_power, nothing_of, element_of, one_of, text_of, plus_of, power_of, struc_lead, container_of, struc_of, edt_of};
+ghost use Rattle.scan.specs.Sums.{met_one, MetKind, mixed, or_else, second_sum, second_power, nothing_of, element_of, one_of, item_of, text_of, plus_of, power_of, struc_lead, container_of, struc_of, edt_of};
 
 use format::kinds::Kind;
 use std::ops::Add;
@@ -67,6 +67,15 @@ impl From<Kind> for Met {
     }
 }
 
+// Any word in the place of a kind.
+impl From<u64> for Met {
+    ghost from_gives = { λ w m. m ≡ record { word = w } };
+
+    fn from(word: u64) -> Met {
+        Met { word }
+    }
+}
+
 // What is told of a run of elements.
 // For an EDT: its leads `first` and `second`, the first two elements that there are: Kind::String for a string, or else the kind.
 // For the table: `rows` and `words`, the data words.
@@ -117,6 +126,19 @@ impl Summary {
         ensures { result ≡ one_of kind rows words }
     {
         Summary::element(kind, kind, rows, words)
+    }
+
+    // The same where any word may stand in the place of the kind.
+    pub fn of(met: Met, rows: usize, words: usize) -> Summary
+        ensures { result ≡ item_of met rows words }
+    {
+        Summary {
+            rows,
+            words,
+            mix: met,
+            first: met,
+            second: Met::NONE,
+        }
     }
 
     // A string of n characters: one row, and a data word for each eight of them.

@@ -1,5 +1,5 @@
 -- The INT at the front of contents, found as its meaning says. Assumes nothing.
-use Prim.Native.Nat.{ℕ, suc, ◌+◌, ◌-◌, ◌%◌, ◌≤◌, ◌<◌}
+use Prim.Native.Nat.{ℕ, zero, suc, ◌+◌, ◌-◌, ◌%◌, ◌≤◌, ◌<◌}
 use mathlib.Core.Path.{◌≡◌, refl, sym, ap, ◌∙◌}
 use mathlib.Core.Logic.{◌≢◌}
 use mathlib.Core.List.{List, ◌∷◌}
@@ -21,6 +21,7 @@ use Rattle.wire.specs.declared.integer.NoInteger.{NoInteger}
 use Rattle.wire.specs.declared.integer.NoInteger.TheVariants.{Cut}
 use Rattle.wire.proofs.ClassCases.{of_class}
 use Rattle.wire.specs.Heads.{LeadingIs, onward, Unpadded, linteger_at}
+use Rattle.wire.specs.Ranges.{Ranged}
 
 onward_later : (i : ℕ) (l : O.Leading) → onward i (O.later l) ≡ onward (suc i) l
 unfolding onward O.later
@@ -45,6 +46,13 @@ skip_one s i h e k =
     k ∙ ap (λ l. onward i (O.leading l)) (drop-cons s i 0 h ∙ ap (λ b. b ∷ drop (suc i) s) e)
     ∙ onward_later i (O.leading (drop (suc i) s))
     ∙ (rw (add-one i) refl)
+
+-- all of it up to i
+pub skip_ranged : (s : List ℕ) (i : ℕ) → Ranged 0xff 0xff 0 i s → O.leading s ≡ onward i (O.leading (drop i s))
+skip_ranged s zero r = skip_none s
+skip_ranged s (suc i) r =
+    let b = r.2 i (omega arith) (omega arith) in
+    rw (add-one i) at (skip_one s i (omega (arith, r.1)) (omega (arith, b.0, b.1)) (skip_ranged s i (omega arith, omega (arith, r.1), λ j p q. r.2 j p (omega arith))))
 
 pub skip_all : (s : List ℕ) (i : ℕ) → length s ≤ i → Unpadded s i → O.leading s ≡ O.absent
 unfolding O.leading onward

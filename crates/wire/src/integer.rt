@@ -5,6 +5,7 @@ ghost use Rattle.format.specs.Objects.{following, integer};
 ghost use Rattle.wire.specs.Heads.{LeadingIs, Unpadded, linteger_at};
 ghost use Rattle.wire.specs.WordsAt.{word_at};
 
+use super::padding::padded_eights;
 use format::Class;
 use format::signed::value_of;
 use format::tree::class_of;
@@ -87,12 +88,16 @@ pub fn integer_of(s: &[u8], k: usize) -> i64
     value_of(high_word(s, k)) >> (64 - 8 * k)
 }
 
-// Where the padding at the front ends.
+// Where the padding at the front ends: passed eight bytes at a time as long as there are eight. Mostly there is none.
+#[tactic(auto, using(crate::proofs::Leadings::skip_none))]
 fn unpadded(s: &[u8]) -> usize
     ensures { Unpadded s.now result }
 {
-    for (i, b) in s.iter().enumerate() {
-        if *b != 0xff {
+    if s.first() != Some(&0xff) {
+        return 0;
+    }
+    for i in padded_eights(s, 0)..s.len() {
+        if s[i] != 0xff {
             return i;
         }
     }

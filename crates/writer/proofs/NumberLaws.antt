@@ -8,7 +8,7 @@ use lib.ListN.{length, set, take, drop}
 use lib.Pow as P
 use mir.Syntax.{w32, w64}
 use Rattle.std.specs.Int.{to_be_bytes, bytes_high_first, byte_at}
-use lib.IntN.{pos}
+use lib.IntN.{ℤ, pos, negsuc}
 use lib.Signed.{mag}
 use Rattle.format.specs.Numbers.{be, width, signed, twos}
 use Rattle.format.specs.Answers.{over}
@@ -128,11 +128,12 @@ width_log n v g l =
     let b : q < width v = split q (width v) (λ h. h) (λ h. absurd (omega (arith, width_fits v, pow_le {i = width v} {j = q} h))) in
     omega arith
 
--- as the code finds it
-pub width_found : (n r : ℕ) → 2 ^ r ≤ max n 1 → max n 1 < 2 * 2 ^ r → 1 + r / 8 ≡ width n
-width_found n r g l =
-    split n 1 (λ z. let e : max n 1 ≡ 1 = omega arith in let q : r ≡ 0 = split r 1 (λ s. omega arith) (λ s. omega (arith, P.pow_mono {i = 1} {j = r} s)) in omega (arith, width_one n (omega arith)))
-    (λ z. sym (width_log r n (omega arith) (omega (arith, pow-suc 2 r))))
+-- as the code finds it: below 256 at once, and else by the highest bit
+pub width_below : (n : ℕ) → n < 256 → 1 ≡ width n
+width_below n h = sym (width_one n h)
+
+pub width_found : (n r : ℕ) → 256 ≤ n → 2 ^ r ≤ n → n < 2 * 2 ^ r → 1 + r / 8 ≡ width n
+width_found n r f g l = sym (width_log r n g (omega (arith, pow-suc 2 r)))
 
 pub width_most : (n : ℕ) → n < 2 ^ 64 → width n ≤ 8
 width_most n h = width_least n 8 (omega arith) (omega arith)
@@ -207,14 +208,15 @@ int_length_large v k g l e h = ap length (int_bytes v k g l e h) ∙ omega (arit
 pub size_bytes : (n k : ℕ) → 128 < n → k ≡ width n → normal_size n ≡ (0x80 + k) ∷ be k (n % 256 ^ k)
 size_bytes n k g e = size_long n g ∙ rw e (rw (mod-eq_of_lt (width_fits n)) refl)
 
--- the magnitude of a word's signed number
-pub magnitude : (v : ℕ) → v < 2 ^ 64 → mag (signed 8 v) ≡ min v (2 ^ 64 - 1 - v)
-unfolding signed
-magnitude v h = by_lt (λ z. mag z ≡ min v (2 ^ 64 - 1 - v)) (2 * v) (256 ^ 8) (λ l. omega arith) (λ l. omega arith)
+-- the magnitude of a signed number, by its word
+pub magnitude : (z : ℤ) → mag z < 2 ^ 63 → min (twos 8 z) (2 ^ 64 - 1 - twos 8 z) ≡ mag z
+unfolding twos
+magnitude (pos n) h = let e : n % 256 ^ 8 ≡ n = mod-eq_of_lt (omega arith) in rw e (omega arith)
+magnitude (negsuc n) h = let e : n % 256 ^ 8 ≡ n = mod-eq_of_lt (omega arith) in rw e (omega arith)
 
 pub size_length_0 : (n : ℕ) → n ≡ 0 → length (normal_size n) ≡ 2
 size_length_0 n e = rw e size_zero
 
-pub ruleset sizes = (size_length_0, size_small, size_large, width_found, width_most, size_0, size_1, size_128, size_bytes, byte_front, two_front)
+pub ruleset sizes = (size_length_0, size_small, size_large, width_below, width_found, width_most, size_0, size_1, size_128, size_bytes, byte_front, two_front)
 
 pub ruleset integers = (int_small, int_bytes, int_length_small, int_length_large, byte_front)

@@ -5,13 +5,19 @@ ghost use Rattle.format.specs.Numbers.{be, signed, width};
 ghost use Rattle.format.specs.Normal.{normal_int, normal_size};
 ghost use Rattle.format.specs.Answers.{over};
 
+use format::signed::{value_of, word_of};
+
 // The fewest bytes, one at least, that hold a number.
 #[tactic(auto, using(crate::proofs::NumberLaws::sizes))]
 pub fn width(n: u64) -> usize
     ensures value { result ≡ width n }
     ensures bound { result ≤ 8 }
 {
-    1 + n.max(1).ilog2() as usize / 8
+    // Most numbers and sizes take one byte: asking for the highest bit of each costs a BITS a quarter of its time.
+    if n < 256 {
+        return 1;
+    }
+    1 + n.ilog2() as usize / 8
 }
 
 // How many bytes the size field of `n` bytes takes.
@@ -26,11 +32,12 @@ pub fn size_length(n: usize) -> usize
     }
 }
 
-// Twice the magnitude of the signed number of a word, which is -1 - z where it is negative: k bytes hold it if this is below 256 ^ k.
+// Twice the magnitude of a signed number, which is -1 - z where it is negative: k bytes hold it if this is below 256 ^ k.
 #[tactic(auto, using(crate::proofs::NumberLaws::magnitude))]
-fn doubled(v: u64) -> u64
-    ensures { result ≡ 2 * mag (signed 8 v) }
+fn doubled(z: i64) -> u64
+    ensures { result ≡ 2 * mag z }
 {
+    let v = word_of(z);
     2 * v.min(!v)
 }
 
@@ -38,7 +45,11 @@ fn doubled(v: u64) -> u64
 pub fn int_length(v: u64) -> usize
     ensures { result ≡ length (normal_int (signed 8 v)) }
 {
-    if v < 64 { 1 } else { 1 + width(doubled(v)) }
+    if v < 64 {
+        1
+    } else {
+        1 + width(doubled(value_of(v)))
+    }
 }
 
 // The low four bytes of `n`, the high byte first.
@@ -129,7 +140,7 @@ pub fn put_int(out: &mut [u8], v: u64) -> usize
         out[0] = (0x80 + v) as u8;
         1
     } else {
-        let k = width(doubled(v));
+        let k = width(doubled(value_of(v)));
         put_tagged(out, (0xe0 + k % 8) as u8, k, v)
     }
 }
