@@ -10,7 +10,7 @@ use Rattle.format.proofs.Parts.{drop_take, rest_part}
 use Rattle.format.proofs.BitLaws.{bits_length_lem, spread_length, packed_length, packed_parts, adjusted_lt}
 use Rattle.format.proofs.Marker.{num_lt, num_append, num_spread, adjusted_num}
 use Rattle.wire.specs.WordsAt.{word_at}
-use Rattle.wire.proofs.WordLaws.{high_bytes, word_val}
+use Rattle.wire.proofs.WordLaws.{word_val}
 use Rattle.format.proofs.Over.{over_next, set_at}
 
 -- ---- bits of some of the bytes
@@ -68,11 +68,13 @@ part_word c n k v b h i j e =
     let w = word_is c n k b h i j in
     rw (e, ← w) (mod-eq_of_lt (adjusted_lt 64 (take n (spread 8 c))))
 
-pub full_word : (c : List ℕ) (v : ℕ) → ((i : ℕ) → get_or c i 0 < 256) → 8 ≤ length c → v ≡ word_at 0 c → v ≡ adjusted 64 (take 64 (spread 8 c))
-full_word c v b j e =
-    let w : adjusted 64 (take 64 (spread 8 c)) ≡ val (take 8 c) / 1 * 1 = word_is c 64 8 (bytes_of c b) (omega arith) (omega arith) j in
-    let h : word_at 0 c / 1 ≡ val (take 8 c) = high_bytes c 8 b j (omega arith) (omega arith) in
-    e ∙ sym (w ∙ omega arith)
+-- eight bytes from e on, as they are read at once
+full_word : (c : List ℕ) (e v : ℕ) → ((i : ℕ) → get_or c i 0 < 256) → e + 8 ≤ length c → v ≡ word_at e c → v ≡ adjusted 64 (take 64 (spread 8 (drop e c)))
+full_word c e v b l w =
+    let d : List ℕ = drop e c in
+    let is : adjusted 64 (take 64 (spread 8 d)) ≡ val (take 8 d) / 1 * 1 =
+    word_is d 64 8 (bytes_drop e c (bytes_of c b)) (omega arith) (omega arith) (omega (arith, length-drop e c)) in
+    w ∙ word_val c e l ∙ sym (is ∙ omega arith)
 
 -- ---- word after word
 pub packed_more : (j : ℕ) (bs : List Bool) → packed 64 (j + 1) bs ≡ packed 64 j bs ++ (adjusted 64 (drop (64 * j) bs) ∷ [])
@@ -99,11 +101,7 @@ pub whole_turn : (c : List ℕ) (n : ℕ) (t₀ t : List ℕ) (j v : ℕ) → j 
     → ((i : ℕ) → get_or c i 0 < 256) → 64 * j + 64 ≤ n → 8 * j + 8 ≤ length c → v ≡ word_at (8 * j) c
     → set t j v ≡ over (packed 64 (j + 1) (take n (spread 8 c))) t₀
 whole_turn c n t₀ t j v h e b i l w =
-    let d : List ℕ = drop (8 * j) c in
-    let is : adjusted 64 (take 64 (spread 8 d)) ≡ val (take 8 d) / 1 * 1 =
-    word_is d 64 8 (bytes_drop (8 * j) c (bytes_of c b)) (omega arith) (omega arith) (omega (arith, length-drop (8 * j) c)) in
-    let one : val (take 8 d) ≡ val (take 8 d) / 1 * 1 = omega arith in
-    word_turn c n t₀ t j v h e (w ∙ word_val c (8 * j) l ∙ one ∙ sym is ∙ first_word (n - 64 * j) (spread 8 d) (omega arith))
+    word_turn c n t₀ t j v h e (full_word c (8 * j) v b l w ∙ first_word (n - 64 * j) (spread 8 (drop (8 * j) c)) (omega arith))
 
 -- the last word, of fewer bits, behind the whole ones
 pub last_turn : (c : List ℕ) (n : ℕ) (t₀ t : List ℕ) (j v : ℕ) → n / 64 < length t → t ≡ over (packed 64 j (take n (spread 8 c))) t₀

@@ -106,13 +106,13 @@ nothing_of = record { rows = 0; words = 0; mix = met_none; first = met_none; sec
 abbrev pub element_of : Kind → Kind → ℕ → ℕ → Summary
 element_of k l r d = record { rows = r; words = d; mix = met_one k; first = met_one l; second = met_none }
 
--- one without elements; a string of n characters, which is one row with eight bits in the data for each
-abbrev pub one_of : Kind → ℕ → ℕ → Summary
-one_of k r d = element_of k k r d
-
--- the same of any word in the place of the kind
+-- one whose kind is its lead, by its word, which may be any
 abbrev pub item_of : Met → ℕ → ℕ → Summary
 item_of m r d = record { rows = r; words = d; mix = m; first = m; second = met_none }
+
+-- one without elements; a string of n characters, which is one row with eight bits in the data for each
+abbrev pub one_of : Kind → ℕ → ℕ → Summary
+one_of k r d = item_of (met_one k) r d
 
 abbrev pub text_of : ℕ → Summary
 text_of n = element_of K.Struc K.String 1 (words_for (8 * n))

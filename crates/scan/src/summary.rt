@@ -121,14 +121,7 @@ impl Summary {
         }
     }
 
-    // One that has no elements itself: its kind is all that an EDT asks.
-    pub fn one(kind: Kind, rows: usize, words: usize) -> Summary
-        ensures { result ≡ one_of kind rows words }
-    {
-        Summary::element(kind, kind, rows, words)
-    }
-
-    // The same where any word may stand in the place of the kind.
+    // One whose kind is all that an EDT asks, by its word, which may be any.
     pub fn of(met: Met, rows: usize, words: usize) -> Summary
         ensures { result ≡ item_of met rows words }
     {
@@ -139,6 +132,13 @@ impl Summary {
             first: met,
             second: Met::NONE,
         }
+    }
+
+    // One that has no elements itself.
+    pub fn one(kind: Kind, rows: usize, words: usize) -> Summary
+        ensures { result ≡ one_of kind rows words }
+    {
+        Summary::of(Met::from(kind), rows, words)
     }
 
     // A string of n characters: one row, and a data word for each eight of them.

@@ -1,14 +1,14 @@
 -- Numbers byte by byte from the low end, and the forms of sizes and integers with their lengths. Assumes nothing.
 use mathlib.Core.Path.{◌≡◌, refl, sym, ap, ap₂, ◌∙◌}
 use mathlib.Core.List.{List, [], ◌∷◌, ◌++◌, append_assoc, append-nil}
-use Prim.Native.Nat.{ℕ, zero, suc, ◌+◌, ◌-◌, ◌*◌, ◌/◌, ◌%◌, ◌^◌, ◌≤◌, ◌<◌, min, max}
+use Prim.Native.Nat.{ℕ, zero, suc, ◌+◌, ◌-◌, ◌*◌, ◌/◌, ◌%◌, ◌^◌, ◌≤◌, ◌<◌}
 use native.Mathlib.Nat.{pow-suc, mul_comm, div-div-eq-div-mul, div-one, mod-eq_of_lt, mod-lt}
 use native.Mathlib.Omega.{arith}
 use lib.ListN.{length, set, take, drop}
 use lib.Pow as P
 use mir.Syntax.{w32, w64}
 use Rattle.std.specs.Int.{to_be_bytes, bytes_high_first, byte_at}
-use lib.IntN.{ℤ, pos, negsuc}
+use lib.IntN.{pos}
 use lib.Signed.{mag}
 use Rattle.format.specs.Numbers.{be, width, signed, twos}
 use Rattle.format.specs.Answers.{over}
@@ -207,12 +207,6 @@ int_length_large v k g l e h = ap length (int_bytes v k g l e h) ∙ omega (arit
 
 pub size_bytes : (n k : ℕ) → 128 < n → k ≡ width n → normal_size n ≡ (0x80 + k) ∷ be k (n % 256 ^ k)
 size_bytes n k g e = size_long n g ∙ rw e (rw (mod-eq_of_lt (width_fits n)) refl)
-
--- the magnitude of a signed number, by its word
-pub magnitude : (z : ℤ) → mag z < 2 ^ 63 → min (twos 8 z) (2 ^ 64 - 1 - twos 8 z) ≡ mag z
-unfolding twos
-magnitude (pos n) h = let e : n % 256 ^ 8 ≡ n = mod-eq_of_lt (omega arith) in rw e (omega arith)
-magnitude (negsuc n) h = let e : n % 256 ^ 8 ≡ n = mod-eq_of_lt (omega arith) in rw e (omega arith)
 
 pub size_length_0 : (n : ℕ) → n ≡ 0 → length (normal_size n) ≡ 2
 size_length_0 n e = rw e size_zero

@@ -5,7 +5,7 @@ ghost use Rattle.format.specs.Numbers.{be, signed, width};
 ghost use Rattle.format.specs.Normal.{normal_int, normal_size};
 ghost use Rattle.format.specs.Answers.{over};
 
-use format::signed::{value_of, word_of};
+use format::signed::value_of;
 
 // The fewest bytes, one at least, that hold a number.
 #[tactic(auto, using(crate::proofs::NumberLaws::sizes))]
@@ -33,12 +33,10 @@ pub fn size_length(n: usize) -> usize
 }
 
 // Twice the magnitude of a signed number, which is -1 - z where it is negative: k bytes hold it if this is below 256 ^ k.
-#[tactic(auto, using(crate::proofs::NumberLaws::magnitude))]
 fn doubled(z: i64) -> u64
     ensures { result ≡ 2 * mag z }
 {
-    let v = word_of(z);
-    2 * v.min(!v)
+    2 * z.max(-1 - z).cast_unsigned()
 }
 
 #[tactic(auto, using(crate::proofs::NumberLaws::integers))]
